@@ -1,0 +1,19 @@
+//! Runs the published Rust text on inputs of document 01. The README says what is the text's and what is ours.
+
+// The text names these crates; what it uses of them stands in `standins`.
+extern crate self as rand;
+extern crate self as u_metaheur;
+extern crate self as u_numflow;
+
+pub mod answers;
+pub mod modes;
+pub mod plan;
+pub mod published;
+pub mod read;
+
+#[allow(dead_code)]
+mod standins;
+use standins::{dispatching, models, prelude, random, scheduler, Deadline, Problem, Rng, RngExt};
+
+// The modules `ga` and `validation`, copied by build.rs.
+include!(concat!(env!("OUT_DIR"), "/text/root.rs"));
