@@ -6,6 +6,7 @@ extern crate self as u_metaheur;
 extern crate self as u_numflow;
 
 pub mod answers;
+pub mod lines;
 pub mod modes;
 pub mod plan;
 pub mod published;

@@ -1,5 +1,6 @@
 //! What the binary answers, by mode.
 
+use crate::lines;
 use crate::plan::Plan;
 use crate::published::{beyond_the_rust, Decoder, Lines, Published};
 use crate::read::{read, Refused};
@@ -49,16 +50,10 @@ impl Mode {
 
 /// The answer to a stored input, with lines given as words for `Time` and `Step`. An error is one about the lines' form.
 pub fn answer(input: &[u8], mode: Mode, lines: Option<&[u8]>) -> Result<String, String> {
-    let plan = match read(input) {
-        Ok(plan) => plan,
-        Err(refused) => return Ok(format!("{refused}\n")),
-    };
-    match lines {
-        Some(words) if mode.takes_lines() => Ok(match read_lines(&plan, words)? {
-            Ok(lines) => run_on_lines(&plan, mode, &lines),
-            Err(refused) => format!("{refused}\n"),
-        }),
-        _ => Ok(run(&plan, mode)),
+    match (read(input), lines) {
+        (Err(refused), _) => Ok(format!("{refused}\n")),
+        (Ok(plan), Some(words)) => Ok(run_on_lines(&plan, mode, &lines::read(words)?)),
+        (Ok(plan), None) => Ok(run(&plan, mode)),
     }
 }
 
@@ -87,11 +82,14 @@ pub fn run(plan: &Plan, mode: Mode) -> String {
     }
 }
 
-/// The answer of `Time` or `Step` on given lines that number 7 does not refuse; other modes do not look at them.
-pub fn run_on_lines(plan: &Plan, mode: Mode, lines: &Lines) -> String {
-    match mode.takes_lines() {
-        true => on_lines(&Published::new(plan).with_lines(lines), mode, lines),
-        false => run(plan, mode),
+/// The answer of `Time` or `Step` on given lines; other modes do not look at them.
+pub fn run_on_lines(plan: &Plan, mode: Mode, given: &[Vec<u32>]) -> String {
+    if !mode.takes_lines() {
+        return run(plan, mode);
+    }
+    match lines::checked(plan, given) {
+        Ok(lines) => on_lines(&Published::new(plan).with_lines(&lines), mode, &lines),
+        Err(refused) => format!("{refused}\n"),
     }
 }
 
@@ -108,41 +106,4 @@ fn said(lines: &[String], nothing: &str) -> String {
         [] => format!("{nothing}\n"),
         _ => lines.iter().map(|line| format!("{line}\n")).collect(),
     }
-}
-
-/// Lines from words: for each machine from 0 a count and that many activities; machines after the last are empty.
-/// The outer error is a file that does not have this form, the inner one is number 7.
-pub fn read_lines(plan: &Plan, bytes: &[u8]) -> Result<Result<Lines, Refused>, String> {
-    let refused = Ok(Err(Refused { number: 7, place: 0 }));
-    let (n, machines) = (plan.activities.len(), plan.transports.len());
-    if bytes.len() % 4 != 0 {
-        return Err(format!("the lines end within a word, at byte {}", bytes.len() / 4 * 4));
-    }
-    let words = bytes.chunks_exact(4).map(|word| u32::from_le_bytes([word[0], word[1], word[2], word[3]]) as usize);
-    let words: Vec<usize> = words.collect();
-    let mut lines = vec![Vec::new(); machines];
-    let mut seen = vec![false; n];
-    let (mut at, mut machine) = (0, 0);
-    while let Some(&count) = words.get(at) {
-        if count > 128 || count > 0 && machine >= machines {
-            return refused;
-        }
-        let line = words.get(at + 1..at + 1 + count).ok_or_else(|| {
-            format!("the line of machine {machine} says {count} activities, and {} words follow", words.len() - at - 1)
-        })?;
-        for &activity in line {
-            if activity >= n || std::mem::replace(&mut seen[activity], true) {
-                return refused;
-            }
-        }
-        if count > 0 {
-            lines[machine] = line.to_vec();
-        }
-        at += 1 + count;
-        machine += 1;
-    }
-    if seen.contains(&false) {
-        return refused;
-    }
-    Ok(Ok(lines))
 }

@@ -12,7 +12,7 @@ use crate::models::{
 use crate::plan::{Plan, Times};
 use crate::Problem;
 
-/// The activities of each machine, in their order there.
+/// The activities of each of the R machines, in their order there; each activity once.
 pub type Lines = Vec<Vec<usize>>;
 
 #[derive(Clone, Copy, Debug, PartialEq, Eq)]

@@ -1,6 +1,7 @@
 //! Document 01's Plan S and its printed example, out of the published Rust.
 
-use compare::modes::{answer, read_lines, run, run_on_lines, Mode};
+use compare::lines;
+use compare::modes::{answer, run, run_on_lines, Mode};
 use compare::plan::{Plan, Task, Times};
 use compare::published::{beyond_the_rust, Published};
 
@@ -22,9 +23,12 @@ fn plan_s(steps: u32) -> Plan {
     }
 }
 
+fn lists(lines: &[&[u32]]) -> Vec<Vec<u32>> {
+    lines.iter().map(|line| line.to_vec()).collect()
+}
+
 fn words(lines: &[&[u32]]) -> Vec<u8> {
-    let words = lines.iter().flat_map(|line| std::iter::once(line.len() as u32).chain(line.iter().copied()));
-    words.flat_map(u32::to_le_bytes).collect()
+    lines::to_bytes(&lists(lines))
 }
 
 #[test]
@@ -93,11 +97,20 @@ fn timing_of_the_order_and_of_given_lines() {
     let all_on_one = "fitness 401a000000000000\n0 1 0 3 0\n1 1 3 7 0\n2 1 7 8 0\n3 1 8 13 0\n";
     assert_eq!(timed(&[&[], &[0, 1, 2, 3]]).as_deref(), Ok(all_on_one));
     let long: Vec<u32> = vec![0; 129];
-    let bad: [&[&[u32]]; 6] =
-        [&[&[0, 2], &[1]], &[&[0, 2], &[1, 3, 0]], &[&[0, 2], &[1, 3, 4]], &[&long], &[], &[&[0, 2], &[1], &[3]]];
+    let bad: [&[&[u32]]; 7] = [
+        &[&[0, 2], &[1]],
+        &[&[0, 2], &[1, 3, 0]],
+        &[&[0, 2], &[1, 3, 4]],
+        &[&[0, 2], &[1, u32::MAX]],
+        &[&long],
+        &[],
+        &[&[0, 2], &[1], &[3]],
+    ];
     for lines in bad {
         assert_eq!(timed(lines).as_deref(), Ok("refused 7 0\n"), "{lines:?}");
     }
+    // An empty line of a machine that is not there is no use of it.
+    assert_eq!(timed(&[&[0, 2], &[1, 3], &[]]), Ok(run(&plan, Mode::Time)));
     let cut = answer(&plan.to_bytes(), Mode::Time, Some(&words(&[&[0, 2], &[1, 3]])[..20]));
     assert!(cut.is_err_and(|message| !message.contains('\n')));
     let ragged = answer(&plan.to_bytes(), Mode::Step, Some(&[1, 2, 3]));
@@ -108,8 +121,8 @@ fn timing_of_the_order_and_of_given_lines() {
 fn the_first_step_of_plan_s() {
     let step = "fitness 4018000000000000\npath 0 1 3\nblock swap 1 0\nkept swap 1 0 rank 13 fitness 401a000000000000\n";
     assert_eq!(run(&plan_s(60), Mode::Step), step);
-    let given = read_lines(&plan_s(60), &words(&[&[0, 2], &[1, 3]])).and_then(|lines| lines.map_err(|r| r.to_string()));
-    assert_eq!(given.map(|lines| run_on_lines(&plan_s(60), Mode::Step, &lines)), Ok(step.to_string()));
+    assert_eq!(run_on_lines(&plan_s(60), Mode::Step, &lists(&[&[0, 2], &[1, 3]])), step);
+    assert_eq!(run_on_lines(&plan_s(60), Mode::Step, &lists(&[&[3, 0], &[1, 2]])), "refused 8 0\n");
 }
 
 #[test]
