@@ -1,4 +1,4 @@
-//! Document 01's Plan S and its printed example, out of the published Rust.
+//! Document 01's Plan S, its printed example and small plans of its table, out of the published Rust.
 
 use compare::lines;
 use compare::modes::{answer, run, run_on_lines, Mode};
@@ -135,4 +135,78 @@ fn what_no_rust_problem_holds() {
     assert_eq!(beyond_the_rust(&mixed).len(), 1);
     let turned = Plan { candidates: vec![(0, 1), (0, 0), (1, 1), (1, 0)], ..plan_s(60) };
     assert_eq!(beyond_the_rust(&turned), [""; 0]);
+}
+
+/// Tasks of one activity each, on machine 0 of two, with these process times.
+fn single_steps(process: &[u32]) -> Plan {
+    let n = process.len();
+    let on_both = |&process: &u32| [Times { setup: 0, process, teardown: 0 }; 2];
+    Plan {
+        tasks: vec![Task { category: 0, release: 0, deadline_flag: 0, deadline: 0, activities: 1 }; n],
+        activities: vec![0; n],
+        times: process.iter().flat_map(on_both).collect(),
+        candidates: (0..n as u32).map(|activity| (activity, 0)).collect(),
+        order: (0..n as u32).collect(),
+        assignment: vec![0; n],
+        ..plan_s(60)
+    }
+}
+
+#[test]
+fn p4_no_position_between_equal_moments() {
+    let plan = Plan {
+        activities: vec![5, 5],
+        candidates: vec![(0, 0), (0, 1), (1, 1)],
+        assignment: vec![0, 1],
+        ..single_steps(&[0, 0])
+    };
+    assert_eq!(run(&plan, Mode::Step), "fitness 4004000000000000\npath 0\n");
+}
+
+#[test]
+fn p5_moves_of_a_block_of_three() {
+    let step = run(&single_steps(&[1, 1, 1]), Mode::Step);
+    let blocks: Vec<&str> = step.lines().filter(|line| line.starts_with("block")).collect();
+    assert_eq!(blocks, ["block swap 0 0", "block swap 0 1", "block shift 0 2 0", "block shift 0 0 2"]);
+    assert_eq!(step.lines().filter(|line| line.starts_with("kept")).count(), 3);
+}
+
+#[test]
+fn p7_lines_contradict_at_any_times() {
+    let plan = Plan { times: vec![Times { setup: 0, process: 0, teardown: 0 }; 8], ..plan_s(60) };
+    assert_eq!(run_on_lines(&plan, Mode::Time, &lists(&[&[3, 0], &[1, 2]])), "refused 8 0\n");
+}
+
+#[test]
+fn p8_tardiness() {
+    for (deadline_flag, deadline, tardiness) in [(1, 12, 0.0), (1, 10, 0.0), (1, -5, 15.0), (0, 0, 0.0)] {
+        let mut plan = Plan { weight: 1f64.to_bits(), ..single_steps(&[10]) };
+        (plan.tasks[0].deadline_flag, plan.tasks[0].deadline) = (deadline_flag, deadline);
+        let sheet = format!("fitness {:016x}\n0 0 0 10 0\n", f64::to_bits(tardiness));
+        assert_eq!(run(&plan, Mode::Decode), sheet);
+    }
+}
+
+#[test]
+fn two_ways_to_one_answer_agree() {
+    let orders = [[0, 0, 1, 1], [0, 1, 0, 1], [0, 1, 1, 0], [1, 0, 0, 1], [1, 0, 1, 0], [1, 1, 0, 0]];
+    let waits = [vec![], vec![(1, 2)], vec![(0, 2), (3, 1)], vec![(1, 0), (1, 2), (1, 2)]];
+    let mut outcomes = [0; 15];
+    for (order, predecessors, assigned) in
+        orders.iter().flat_map(|order| waits.iter().flat_map(move |wait| (0..16).map(move |bits| (order, wait, bits))))
+    {
+        for steps in [1, 7, 60] {
+            let plan = Plan {
+                transports: vec![vec![0, 2], vec![1, 0]],
+                candidates: (0..8).map(|k| (k / 2, k % 2)).collect(),
+                predecessors: predecessors.clone(),
+                order: order.to_vec(),
+                assignment: (0..4).map(|activity| assigned >> activity & 1).collect(),
+                ..plan_s(steps)
+            };
+            assert_eq!(Published::differences(&plan), [""; 0], "{plan:?}");
+            outcomes[Published::new(&plan).improve().outcome as usize] += 1;
+        }
+    }
+    assert!(outcomes[12] > 0 && outcomes[13] > 0 && outcomes[14] > 0, "{outcomes:?}");
 }
