@@ -49,7 +49,11 @@ fn take() -> Result<(), String> {
     // The text has no `ga/mod.rs`; this one holds its modules, and the two traits of `u_metaheur::ga`.
     put(
         &out.join("ga/mod.rs"),
-        "pub mod chromosome;\npub mod operators;\npub mod problem;\npub use crate::standins::{GaProblem, Individual};\npub use problem::ActivityInfo;\n",
+        "pub mod chromosome;\n\
+         pub mod operators;\n\
+         pub mod problem;\n\
+         pub use crate::standins::{GaProblem, Individual};\n\
+         pub use problem::ActivityInfo;\n",
     )?;
     let module = |file: &str, name: &str| {
         format!("#[allow(dead_code, unused)]\n#[path = {:?}]\nmod {name};\n", out.join(file))

@@ -8,11 +8,8 @@ const LONGEST_LINE: usize = 128;
 
 /// As words: for each machine a count and that many activities. An error says how the bytes do not have this form.
 pub fn read(bytes: &[u8]) -> Result<Vec<Vec<u32>>, String> {
-    if bytes.len() % 4 != 0 {
-        return Err(format!("the lines end inside the word at byte {}", bytes.len() / 4 * 4));
-    }
-    let words = bytes.chunks_exact(4).map(|word| u32::from_le_bytes([word[0], word[1], word[2], word[3]]));
-    let words: Vec<u32> = words.collect();
+    let words = bytes.chunks(4).map(|word| word.try_into().ok().map(u32::from_le_bytes)).collect::<Option<Vec<u32>>>();
+    let words = words.ok_or_else(|| format!("the lines end inside the word at byte {}", bytes.len() / 4 * 4))?;
     let mut lines = Vec::new();
     let mut left = words.as_slice();
     while let Some((&count, rest)) = left.split_first() {

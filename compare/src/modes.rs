@@ -48,7 +48,7 @@ impl Mode {
     }
 }
 
-/// The answer to a stored input, with lines given as words for `Time` and `Step`. An error is one about the lines' form.
+/// The answer to a stored input, with lines given as words for `Time` and `Step`. An error is about the lines' form.
 pub fn answer(input: &[u8], mode: Mode, lines: Option<&[u8]>) -> Result<String, String> {
     match (read(input), lines) {
         (Err(refused), _) => Ok(format!("{refused}\n")),

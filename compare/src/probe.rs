@@ -1,4 +1,4 @@
-//! Compiled as a child of the text's `local_search`, so that it sees that module's private items and those of `problem`.
+//! Compiled as a child of the text's `local_search`, so that it sees the private items of that module and of `problem`.
 //! It calls them; what it computes itself is said at each place.
 
 use super::*;

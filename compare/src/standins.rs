@@ -128,7 +128,7 @@ pub mod models {
     }
 
     impl Activity {
-        /// The candidates as the plan lists them; the text's comment says that a Rust problem has them in machine order.
+        /// The candidates as the plan lists them; by the text's comment a Rust problem has them in machine order.
         pub fn eligible_resources(&self, _: &[Resource]) -> Vec<&str> {
             self.resource_requirements.iter().flat_map(|r| &r.candidates).map(String::as_str).collect()
         }

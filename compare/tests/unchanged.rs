@@ -1,4 +1,4 @@
-//! What was compiled is the published text: every copy in the build folder is its file, `local_search.rs` plus one line.
+//! What was compiled is the published text: each copy in the build folder is its file, `local_search.rs` plus one line.
 
 use std::fs::read_to_string;
 use std::path::{Path, PathBuf};
