@@ -42,7 +42,7 @@ fn take() -> Result<(), String> {
             )
         })?;
         if file == "ga/problem/local_search.rs" {
-            body += &format!("\n#[path = {:?}] mod probe;\n", package.join("src/probe.rs"));
+            body += &format!("#[path = {:?}] mod probe;\n", package.join("src/probe.rs"));
         }
         put(&out.join(file), &body)?;
     }

@@ -8,7 +8,7 @@ fn the_copies_are_the_text() {
     let package = Path::new(env!("CARGO_MANIFEST_DIR"));
     let folder = std::env::var_os("LAVKKESTO_RUST").filter(|folder| !folder.is_empty()).map(PathBuf::from);
     let text = folder.unwrap_or_else(|| package.join("../../shared/docs/src"));
-    let probe = format!("\n#[path = {:?}] mod probe;\n", package.join("src/probe.rs"));
+    let probe = format!("#[path = {:?}] mod probe;\n", package.join("src/probe.rs"));
     for (file, appended) in [
         ("ga/chromosome.rs", ""),
         ("ga/operators.rs", ""),
