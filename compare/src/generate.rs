@@ -46,6 +46,8 @@ pub enum Class {
     Contrary,
     /// Orders and Assignments that lack something, or have too much.
     Genes,
+    /// Many activities without a machine, waited for by others: where the active decoder stops early.
+    Gaps,
     /// Orders that are hard to better: one machine, one task, or no times. Most searches find nothing.
     Settled,
     /// Transports from a machine to itself. No Rust problem holds these.
@@ -55,7 +57,7 @@ pub enum Class {
 }
 
 impl Class {
-    pub const ALL: [Class; 15] = [
+    pub const ALL: [Class; 16] = [
         Class::Tiny,
         Class::Medium,
         Class::Full,
@@ -68,6 +70,7 @@ impl Class {
         Class::Waits,
         Class::Contrary,
         Class::Genes,
+        Class::Gaps,
         Class::Settled,
         Class::SelfTransport,
         Class::LooseCandidates,
@@ -87,6 +90,7 @@ impl Class {
             Class::Waits => "waits",
             Class::Contrary => "contrary",
             Class::Genes => "genes",
+            Class::Gaps => "gaps",
             Class::Settled => "settled",
             Class::SelfTransport => "self-transport",
             Class::LooseCandidates => "loose-candidates",
@@ -217,6 +221,8 @@ struct Makings {
     faulty: u64,
     /// The chance that an activity is assigned to a machine that is no candidate.
     borrowed: u64,
+    /// The chance that an activity is assigned to no machine.
+    gaps: u64,
     /// The chance that Improve is not asked for.
     idle: u64,
 }
@@ -244,6 +250,7 @@ impl Makings {
             orderly: 100,
             faulty: 3,
             borrowed: 0,
+            gaps: 0,
             idle: 4,
         }
     }
@@ -311,6 +318,12 @@ fn makings(class: Class, rng: &mut Rng) -> Makings {
             let candidates = rng.pick(&[Candidates::Single, Candidates::Some, Candidates::SomeOrNone]);
             let predecessors = rng.pick(&[0, 3]);
             Makings { candidates, predecessors, faulty: 90, borrowed: 20, deadlines: 40, ..sized(rng, 2, 24, 1, 4) }
+        }
+        Class::Gaps => {
+            let size = sized(rng, 2, 14, 1, 3);
+            let predecessors = size.activities * rng.within(1, 3) as usize / 2;
+            let gaps = rng.pick(&[20, 50, 80]);
+            Makings { predecessors, gaps, tasks: size.tasks.min(4), orderly: 70, deadlines: 40, faulty: 20, ..size }
         }
         Class::Settled => settled(rng),
         Class::SelfTransport => Makings { transports: 60, self_transports: true, ..sized(rng, 2, 30, 1, 5).any_feature(rng) },
@@ -485,7 +498,7 @@ fn machines_for(makings: &Makings, rng: &mut Rng) -> (Vec<(u32, u32)>, Vec<i32>)
             }
         }
         candidates.extend(machines.into_iter().map(|machine| (activity as u32, machine)));
-        assignment.push(assigned as i32);
+        assignment.push(if rng.chance(makings.gaps) { -1 } else { assigned as i32 });
     }
     debug_assert!(candidates.len() <= MOST_CANDIDATES);
     (candidates, assignment)
