@@ -260,7 +260,7 @@ const BAD_WEIGHTS: [(&str, u64); 10] = [
     ("negative infinite", 0xfff0_0000_0000_0000),
     ("just above 1", 0x3ff0_0000_0000_0001),
     ("2", 0x4000_0000_0000_0000),
-    ("the least below 0", 0x8000_0000_0000_0001),
+    ("just below 0", 0x8000_0000_0000_0001),
     ("-0.5", 0xbfe0_0000_0000_0000),
     ("-1", 0xbff0_0000_0000_0000),
 ];
@@ -504,7 +504,8 @@ impl Collection {
                 let bytes = self.form.with(&[(at, MOST[section])]);
                 for kept in [0, 1, 3] {
                     if end + kept <= bytes.len() {
-                        let name = format!("cut: {} count is {} with {kept} bytes after it", NAMES[section], MOST[section]);
+                        let name =
+                            format!("cut: {} count is {} with {kept} bytes after it", NAMES[section], MOST[section]);
                         self.add(name, bytes[..end + kept].to_vec(), MISSING, end);
                     }
                 }
@@ -572,7 +573,8 @@ impl Collection {
         for k in 1..plan.setups.len() {
             let at = self.form.entry(SETUPS, k, 4);
             let before = plan.setups[k - 1];
-            let same = [(at, before.machine), (at + 1, before.previous), (at + 2, before.category), (at + 3, LARGEST + 1)];
+            let same =
+                [(at, before.machine), (at + 1, before.previous), (at + 2, before.category), (at + 3, LARGEST + 1)];
             let name = format!("two faults: setup {k} repeats a triple, and its time is out of range");
             self.change(name, &same, RANGE, at + 3);
         }
@@ -667,7 +669,8 @@ fn one_fault(bytes: &mut Vec<u8>, rng: &mut Rng) {
     match rng.below(11) {
         0 => bytes.truncate(rng.index(bytes.len())),
         1 | 2 => {
-            let edges = [0, 1, 2, 7, 8, 9, 16, 17, 32, 33, 128, 129, 256, 257, 1_000, 1_001, 1_152, 1_153, 2_048, 2_049];
+            let edges =
+                [0, 1, 2, 7, 8, 9, 16, 17, 32, 33, 128, 129, 256, 257, 1_000, 1_001, 1_152, 1_153, 2_048, 2_049];
             set(bytes, at, rng.pick(&edges));
         }
         3 => set(bytes, at, rng.pick(&[u32::MAX, 1 << 31, LARGEST, 0x7ff8_0000, 0xbff0_0000, 0x3ff0_0001])),
@@ -905,7 +908,9 @@ mod tests {
         let kinds: BTreeSet<&str> = all.iter().filter_map(|damaged| damaged.name.split(':').next()).collect();
         let wanted = ["circle", "cut", "empty", "range", "rule", "trailing", "two faults"];
         assert_eq!(kinds.into_iter().collect::<Vec<_>>(), wanted);
-        for part in ["adjacent", "apart", "deadline is 1", "one lower in its machine", "over all 3 tasks", "NaN", "4,096"] {
+        for part in
+            ["adjacent", "apart", "deadline is 1", "one lower in its machine", "over all 3 tasks", "NaN", "4,096"]
+        {
             assert!(all.iter().any(|damaged| damaged.name.contains(part)), "{part}");
         }
         for number in 1..=5 {

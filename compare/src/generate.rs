@@ -268,8 +268,13 @@ impl Makings {
         self.zeros = rng.pick(&[0, 0, 10, 40]);
         self.own_setups = rng.pick(&[0, 0, 30, 100]);
         self.categories = rng.within(1, CATEGORIES);
-        self.candidates =
-            rng.pick(&[Candidates::Single, Candidates::Some, Candidates::Some, Candidates::SomeOrNone, Candidates::All]);
+        self.candidates = rng.pick(&[
+            Candidates::Single,
+            Candidates::Some,
+            Candidates::Some,
+            Candidates::SomeOrNone,
+            Candidates::All,
+        ]);
         self.setups = rng.pick(&[0, 0, 0, 20, 70, 100]);
         self.transports = rng.pick(&[0, 0, 50, 100]);
         self.predecessors = rng.pick(&[0, 0, 1, 3]) * self.activities / 4;
@@ -302,7 +307,11 @@ fn makings(class: Class, rng: &mut Rng) -> Makings {
         }
         Class::Transports => {
             let transports = rng.pick(&[30, 100]);
-            Makings { transports, candidates: rng.pick(&[Candidates::Single, Candidates::Some]), ..sized(rng, 4, 40, 2, 6) }
+            Makings {
+                transports,
+                candidates: rng.pick(&[Candidates::Single, Candidates::Some]),
+                ..sized(rng, 4, 40, 2, 6)
+            }
         }
         Class::Waits => {
             let size = sized(rng, 4, 40, 1, 5);
@@ -326,7 +335,9 @@ fn makings(class: Class, rng: &mut Rng) -> Makings {
             Makings { predecessors, gaps, tasks: size.tasks.min(4), orderly: 70, deadlines: 40, faulty: 20, ..size }
         }
         Class::Settled => settled(rng),
-        Class::SelfTransport => Makings { transports: 60, self_transports: true, ..sized(rng, 2, 30, 1, 5).any_feature(rng) },
+        Class::SelfTransport => {
+            Makings { transports: 60, self_transports: true, ..sized(rng, 2, 30, 1, 5).any_feature(rng) }
+        }
         Class::LooseCandidates => {
             let candidates = rng.pick(&[Candidates::Some, Candidates::All]);
             Makings { candidates, differ: true, loose_candidates: true, ..sized(rng, 2, 30, 2, 6) }
@@ -359,7 +370,12 @@ fn ties(rng: &mut Rng) -> Makings {
 fn large(rng: &mut Rng) -> Makings {
     let size = if rng.chance(15) { Makings::plain(128, 32, 16) } else { sized(rng, 2, 40, 1, 6) };
     Makings {
-        durations: rng.pick(&[Durations::Largest, Durations::Largest, Durations::Ends, Durations::UpTo(u64::from(LARGEST))]),
+        durations: rng.pick(&[
+            Durations::Largest,
+            Durations::Largest,
+            Durations::Ends,
+            Durations::UpTo(u64::from(LARGEST)),
+        ]),
         differ: rng.chance(30),
         own_setups: 100,
         zeros: 0,
@@ -512,7 +528,8 @@ fn routes(makings: &Makings, rng: &mut Rng) -> (Vec<(u32, u32)>, Vec<i32>) {
         rng.shuffle(&mut route);
         assignment.extend(route);
     }
-    let candidates = assignment.iter().enumerate().map(|(activity, &machine)| (activity as u32, machine as u32)).collect();
+    let candidates =
+        assignment.iter().enumerate().map(|(activity, &machine)| (activity as u32, machine as u32)).collect();
     (candidates, assignment)
 }
 
@@ -750,6 +767,66 @@ fn steps(makings: &Makings, rng: &mut Rng) -> u32 {
     steps as u32
 }
 
+// ----------------------------------------------------------------------------------------- two extreme plans
+
+/// The longest input there is: every section is full, 65,204 bytes in all.
+pub fn longest_input() -> Plan {
+    let (tasks, activities, machines) = (32, 128, 16);
+    let rows = (0..machines).map(|from| (0..machines).map(|to| if from == to { 0 } else { from + to }).collect());
+    let times = (0..activities * machines).map(|k| Times { setup: k % 5, process: 1 + k % 37, teardown: k % 3 });
+    let triples =
+        (0..machines).flat_map(|m| (0..PREVIOUS).flat_map(move |p| (0..CATEGORIES as u32).map(move |c| (m, p, c))));
+    let setup =
+        |(machine, previous, category)| Setup { machine, previous, category, setup: (previous + 2 * category) % 7 };
+    // After the first task, each activity waits for its like in the task before and for that task's second step.
+    let waits = (4..activities).flat_map(|a| [a - 4, a / 4 * 4 - 3]).take(MOST_PREDECESSORS - 8);
+    let mut predecessors: Vec<(u32, u32)> = waits.enumerate().map(|(k, before)| (4 + k as u32 / 2, before)).collect();
+    predecessors.extend([(activities - 1, 0); 8]);
+    Plan {
+        tasks: (0..tasks)
+            .map(|k| Task {
+                category: k % 8,
+                release: k as i32,
+                deadline_flag: 1,
+                deadline: 40 * k as i32,
+                activities: 4,
+            })
+            .collect(),
+        activities: (0..activities as i32).collect(),
+        transports: rows.collect(),
+        times: times.collect(),
+        candidates: (0..activities).flat_map(|a| (0..machines).map(move |m| (a, m))).collect(),
+        setups: triples.map(setup).collect(),
+        predecessors,
+        weight: 0.5f64.to_bits(),
+        steps: MOST_STEPS as u32,
+        // Each task twice as often as needed: the second half is dropped.
+        order: (0..MOST_NAMINGS as u32).map(|k| k / 4 % tasks).collect(),
+        assignment: (0..activities as i32).map(|a| a % machines as i32).collect(),
+    }
+}
+
+/// The latest end there is, 512 times the largest number: one task of 128 steps to and fro between two machines,
+/// released as late as can be, every time and every way the largest.
+pub fn latest_end() -> Plan {
+    let activities = 128;
+    let largest = Times { setup: LARGEST, process: LARGEST, teardown: LARGEST };
+    let machine = |activity: u32| activity % 2;
+    Plan {
+        tasks: vec![Task { category: 0, release: i32::MAX, deadline_flag: 1, deadline: i32::MIN, activities }],
+        activities: vec![i32::MAX; activities as usize],
+        transports: vec![vec![0, LARGEST], vec![LARGEST, 0]],
+        times: vec![largest; 2 * activities as usize],
+        candidates: (0..activities).map(|a| (a, machine(a))).collect(),
+        setups: Vec::new(),
+        predecessors: Vec::new(),
+        weight: 0.5f64.to_bits(),
+        steps: 60,
+        order: vec![0; activities as usize],
+        assignment: (0..activities).map(|a| machine(a) as i32).collect(),
+    }
+}
+
 // ------------------------------------------------------------------------------------------- lines for timing
 
 /// Lines to be timed, one for each machine. About half keep steps and predecessors; the rest are shuffled, so
@@ -904,6 +981,17 @@ mod tests {
         assert!((0..SEEDS).any(|seed| plan(seed, Class::Full).candidates.len() == 2_048));
         assert!((0..2_000).any(|seed| plan(seed, Class::Medium).steps == 1_000));
         assert!(some(Class::Large, |plan| plan.times.iter().all(|times| *times == largest())) > 10);
+    }
+
+    #[test]
+    fn the_extreme_plans_are_accepted() {
+        let bytes = longest_input().to_bytes();
+        assert_eq!(bytes.len(), 65_204);
+        assert_eq!(judge(&bytes), Ok(()));
+        assert!(held_by_rust(&longest_input()));
+        assert_eq!(judge(&latest_end().to_bytes()), Ok(()));
+        let ways = latest_end().activities.len() as u64 - 1;
+        assert_eq!(1 + 3 * 128 + ways, 512);
     }
 
     fn borrows(plan: &Plan) -> bool {

@@ -40,6 +40,7 @@
 //! A `#` starts a comment, blank lines and indentation mean nothing, capitals count as small letters. Every
 //! number is a word of any value: a plan that the reader would refuse can be written too. The counts are made
 //! from the entries. A number that only repeats an entry's position must be right, so a review can trust it.
+//! Comments that start a line with `#=` say, line by line, what document 01's program prints for the plan.
 
 use std::fmt;
 use std::fmt::Write;
@@ -118,6 +119,13 @@ pub fn parse(text: &str) -> Result<Vec<u8>, TextError> {
         }
     }
     parser.finish(last)
+}
+
+/// What the program prints for a plan, as its text says in its `#=` comments; nothing if there are none.
+pub fn expected_print(text: &str) -> Option<String> {
+    let said = text.lines().filter_map(|line| line.trim_start().strip_prefix("#="));
+    let print: String = said.map(|line| format!("{}\n", line.trim())).collect();
+    (!print.is_empty()).then_some(print)
 }
 
 #[derive(Clone, Copy, Debug, PartialEq, Eq)]
@@ -1130,7 +1138,10 @@ damage
     #[test]
     fn damage_is_done_in_the_order_written() {
         let whole = parse(undamaged()).unwrap();
-        let text = format!("{}damage\n count of tasks is 9\n word at byte 4 is -1\n cut at byte 9\n stray bytes 0a FF", undamaged());
+        let text = format!(
+            "{}damage\n count of tasks is 9\n word at byte 4 is -1\n cut at byte 9\n stray bytes 0a FF",
+            undamaged()
+        );
         assert_eq!(parse(&text).unwrap(), [9, 0, 0, 0, 255, 255, 255, 255, whole[8], 10, 255]);
         let text = format!("{}damage\n cut at byte 8\n count of order is 1", undamaged());
         let error = parse(&text).unwrap_err();
@@ -1163,7 +1174,11 @@ damage
             ("(task 1, step 1)", "(task 1, step 2)", "line 10: this is step 1 by its position, not 2"),
             ("(no task)", "(task 2, step 1)", "line 11: the tasks have fewer activities than this"),
             ("transports 0 5", "transports 0 5 5", "line 13: machine 0 has 3 transports, but there are 2 machines"),
-            ("on every machine: process 3", "on machine 1: process 3", "line 16: this is machine 0 by its position, not 1"),
+            (
+                "on every machine: process 3",
+                "on machine 1: process 3",
+                "line 16: this is machine 0 by its position, not 1",
+            ),
             ("on machine 1: process 2", "on every machine: process 2", "line 18: some machines of this activity"),
             ("setup 1, process 2, teardown 3", "", "line 17: expected 'process', found the end of the line"),
             ("machines 0 1", "machines", "line 21: expected the number of a machine, found the end of the line"),
@@ -1196,7 +1211,10 @@ damage
     #[test]
     fn a_text_that_ends_early_is_told() {
         assert_eq!(parse("").unwrap_err().to_string(), "line 1: the text ends before the heading 'tasks'");
-        assert_eq!(parse("tasks\n\n#\n").unwrap_err().to_string(), "line 3: the text ends before the heading 'activities'");
+        assert_eq!(
+            parse("tasks\n\n#\n").unwrap_err().to_string(),
+            "line 3: the text ends before the heading 'activities'"
+        );
     }
 
     #[test]
@@ -1208,7 +1226,8 @@ damage
     #[test]
     fn weights_keep_their_bits() {
         let mut rng = Rng::new(5);
-        let special = [0, 1, 1 << 63, (1 << 63) + 1, (1 << 52) - 1, 1 << 52, 0x7ff0 << 48, 0xfff0 << 48, 0x7ff8 << 48, u64::MAX];
+        let special =
+            [0, 1, 1 << 63, (1 << 63) + 1, (1 << 52) - 1, 1 << 52, 0x7ff0 << 48, 0xfff0 << 48, 0x7ff8 << 48, u64::MAX];
         for bits in special.into_iter().chain((0..20_000).map(|_| rng.next())) {
             let text = format!("search\n weight {}, steps 1", weight_text(bits));
             let mut line = Line::new(1, &text[8..]).unwrap();
@@ -1286,8 +1305,30 @@ damage
 
     /// Pieces that mutations put into a text.
     const PIECES: [&str; 24] = [
-        "task", "activity", "machine", "every", "0", "-1", "99999999999999999999999999999999999999999999", "4294967295", ":", ",",
-        "(", ")", "\"", "#", "\n", "damage", "cut at byte 3", "0x", "é", "\u{feff}", "-", "times", "bits", "\r",
+        "task",
+        "activity",
+        "machine",
+        "every",
+        "0",
+        "-1",
+        "99999999999999999999999999999999999999999999",
+        "4294967295",
+        ":",
+        ",",
+        "(",
+        ")",
+        "\"",
+        "#",
+        "\n",
+        "damage",
+        "cut at byte 3",
+        "0x",
+        "é",
+        "\u{feff}",
+        "-",
+        "times",
+        "bits",
+        "\r",
     ];
 
     fn mutate(text: &str, rng: &mut Rng) -> String {
@@ -1345,6 +1386,16 @@ damage
     }
 
     #[test]
+    fn the_print_that_a_text_says_is_found() {
+        assert_eq!(
+            expected_print("#= outcome 10\ntasks # = x\n  #=fitness 00\n").as_deref(),
+            Some("outcome 10\nfitness 00\n")
+        );
+        assert_eq!(expected_print("tasks\n# no print\n"), None);
+    }
+
+    /// Refused plans must say the refusal that the judge gives, the others that they are accepted.
+    #[test]
     fn the_plans_of_this_folder_are_read() {
         let folder = concat!(env!("CARGO_MANIFEST_DIR"), "/plans");
         let mut number = 0;
@@ -1352,11 +1403,17 @@ damage
             let path = entry.expect("an entry of the folder").path();
             if path.extension().is_some_and(|extension| extension == "plan") {
                 let text = std::fs::read_to_string(&path).expect("a plan's text");
-                let read = parse(&text);
-                assert!(read.is_ok(), "{}: {}", path.display(), read.unwrap_err());
+                let bytes = parse(&text).unwrap_or_else(|error| panic!("{}: {error}", path.display()));
+                let print = expected_print(&text).unwrap_or_default();
+                match damage::judge::judge(&bytes) {
+                    Ok(()) => assert!(print.starts_with("outcome "), "{}", path.display()),
+                    Err((number, place)) => {
+                        assert_eq!(print, format!("refused {number} {place}\n"), "{}", path.display())
+                    }
+                }
                 number += 1;
             }
         }
-        assert!(number > 0);
+        assert!(number > 50, "{number}");
     }
 }
