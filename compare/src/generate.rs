@@ -52,7 +52,7 @@ pub enum Class {
     Settled,
     /// Transports from a machine to itself. No Rust problem holds these.
     SelfTransport,
-    /// Candidates of an activity out of machine order. No Rust problem holds these.
+    /// Candidates in an order that no numbering of the machines explains. No Rust problem holds these.
     LooseCandidates,
 }
 
@@ -107,13 +107,25 @@ impl Class {
     }
 }
 
-/// Whether a Rust problem can hold this plan: no time from a machine to itself, and the candidates of each
-/// activity in rising machine order. Partial Setups and first setups can be held, but the body that would read
-/// them is not in the published text.
+/// Whether a Rust problem can hold this plan: no time from a machine to itself, and some numbering of the machines
+/// under which every activity lists its candidates in machine order. Partial Setups and first setups can be held,
+/// but the body that would read them is not in the published text.
 pub fn held_by_rust(plan: &Plan) -> bool {
     let stays = plan.transports.iter().enumerate().all(|(machine, row)| row.get(machine) == Some(&0));
-    let rises = plan.candidates.windows(2).all(|pair| pair[0].0 != pair[1].0 || pair[0].1 < pair[1].1);
-    stays && rises
+    stays && one_numbering_fits(&plan.candidates)
+}
+
+/// Whether no machines are listed in a circle: taking away, again and again, a machine that stands behind no other.
+fn one_numbering_fits(candidates: &[(u32, u32)]) -> bool {
+    let neighbours = candidates.windows(2).filter(|pair| pair[0].0 == pair[1].0);
+    let mut arcs: Vec<(u32, u32)> = neighbours.map(|pair| (pair[0].1, pair[1].1)).collect();
+    while !arcs.is_empty() {
+        let Some(&(first, _)) = arcs.iter().find(|arc| arcs.iter().all(|other| other.1 != arc.0)) else {
+            return false;
+        };
+        arcs.retain(|arc| arc.0 != first);
+    }
+    true
 }
 
 // ---------------------------------------------------------------------------------------------------- chance
@@ -504,20 +516,26 @@ fn machines_for(makings: &Makings, rng: &mut Rng) -> (Vec<(u32, u32)>, Vec<i32>)
         };
         let assigned = machines[if keep == 0 || rng.chance(makings.borrowed) { makings.machines - 1 } else { 0 }];
         machines.truncate(keep);
-        if !makings.loose_candidates {
-            machines.sort_unstable();
-        } else if activity == 0 || rng.chance(70) {
-            // Machine 0 of activity 0 last: at least one activity is out of order for certain.
-            machines.sort_unstable_by(|one, other| other.cmp(one));
-            if activity == 0 && machines.len() < 2 {
-                machines = vec![1, 0];
-            }
+        machines.sort_unstable();
+        if makings.loose_candidates {
+            machines = loosen(activity, machines, makings.machines as u32, rng);
         }
         candidates.extend(machines.into_iter().map(|machine| (activity as u32, machine)));
         assignment.push(if rng.chance(makings.gaps) { -1 } else { assigned as i32 });
     }
     debug_assert!(candidates.len() <= MOST_CANDIDATES);
     (candidates, assignment)
+}
+
+/// The machines of an activity out of order. The first two activities list all of them, falling and rising, so that
+/// no other numbering of the machines could mend it.
+fn loosen(activity: usize, mut machines: Vec<u32>, all: u32, rng: &mut Rng) -> Vec<u32> {
+    match activity {
+        0 => machines = (0..all).rev().collect(),
+        1 => machines = (0..all).collect(),
+        _ => rng.shuffle(&mut machines),
+    }
+    machines
 }
 
 /// A textbook job shop: the steps of each job go over all machines, each once.
@@ -936,6 +954,14 @@ mod tests {
     }
 
     #[test]
+    fn one_numbering_must_fit_all_activities() {
+        assert!(one_numbering_fits(&[]));
+        assert!(one_numbering_fits(&[(0, 2), (0, 0), (1, 2), (1, 1), (1, 0), (2, 1), (2, 0)]));
+        assert!(!one_numbering_fits(&[(0, 0), (0, 1), (1, 1), (1, 0)]));
+        assert!(!one_numbering_fits(&[(0, 0), (0, 1), (1, 1), (1, 2), (2, 2), (2, 0)]));
+    }
+
+    #[test]
     fn sizes_are_those_of_the_class() {
         for seed in 0..SEEDS {
             assert!((1..=6).contains(&plan(seed, Class::Tiny).activities.len()));
@@ -975,6 +1001,8 @@ mod tests {
         genes(|plan| plan.assignment.len() < plan.activities.len(), "a short assignment");
         genes(|plan| plan.assignment.contains(&-1), "no machine");
         genes(borrows, "a machine that is no candidate");
+        assert!(some(Class::Waits, |plan| waits_for(plan, true)) > 20, "an earlier step of the own task");
+        assert!(some(Class::Waits, |plan| waits_for(plan, false)) > 50, "a step of another task");
         let full_table = |plan: &Plan| plan.setups.len() == plan.transports.len() * 72;
         assert!(some(Class::Setups, full_table) > 0);
         assert!((0..2_000).any(|seed| plan(seed, Class::Full).setups.len() == 1_152));
@@ -992,6 +1020,13 @@ mod tests {
         assert_eq!(judge(&latest_end().to_bytes()), Ok(()));
         let ways = latest_end().activities.len() as u64 - 1;
         assert_eq!(1 + 3 * 128 + ways, 512);
+    }
+
+    /// Whether an activity names a predecessor of its own task, or of another.
+    fn waits_for(plan: &Plan, own: bool) -> bool {
+        let task_of: Vec<usize> =
+            plan.tasks.iter().enumerate().flat_map(|(task, entry)| vec![task; entry.activities as usize]).collect();
+        plan.predecessors.iter().any(|&(a, before)| (task_of[a as usize] == task_of[before as usize]) == own)
     }
 
     fn borrows(plan: &Plan) -> bool {
