@@ -199,9 +199,9 @@ enum Candidates {
     /// The assigned machine alone.
     Single,
     /// One to all machines, in machine order.
-    Some,
-    /// Like `Some`, and some activities have none.
-    SomeOrNone,
+    Several,
+    /// Like `Several`, and some activities have none.
+    SeveralOrNone,
     All,
 }
 
@@ -282,9 +282,9 @@ impl Makings {
         self.categories = rng.within(1, CATEGORIES);
         self.candidates = rng.pick(&[
             Candidates::Single,
-            Candidates::Some,
-            Candidates::Some,
-            Candidates::SomeOrNone,
+            Candidates::Several,
+            Candidates::Several,
+            Candidates::SeveralOrNone,
             Candidates::All,
         ]);
         self.setups = rng.pick(&[0, 0, 0, 20, 70, 100]);
@@ -306,7 +306,7 @@ fn makings(class: Class, rng: &mut Rng) -> Makings {
         Class::Full => Makings::plain(128, 32, 16).any_feature(rng),
         Class::JobShop => job_shop(rng),
         Class::Flexible => {
-            let candidates = rng.pick(&[Candidates::Some, Candidates::All]);
+            let candidates = rng.pick(&[Candidates::Several, Candidates::All]);
             let (own_setups, deadlines) = (rng.pick(&[0, 30]), rng.pick(&[0, 50]));
             Makings { candidates, differ: true, own_setups, deadlines, borrowed: 5, ..sized(rng, 4, 40, 2, 6) }
         }
@@ -321,14 +321,14 @@ fn makings(class: Class, rng: &mut Rng) -> Makings {
             let transports = rng.pick(&[30, 100]);
             Makings {
                 transports,
-                candidates: rng.pick(&[Candidates::Single, Candidates::Some]),
+                candidates: rng.pick(&[Candidates::Single, Candidates::Several]),
                 ..sized(rng, 4, 40, 2, 6)
             }
         }
         Class::Waits => {
             let size = sized(rng, 4, 40, 1, 5);
             let predecessors = size.activities * rng.within(1, 6) as usize / 2;
-            let candidates = rng.pick(&[Candidates::Single, Candidates::Some]);
+            let candidates = rng.pick(&[Candidates::Single, Candidates::Several]);
             Makings { predecessors, candidates, orderly: 90, ..size }
         }
         Class::Contrary => {
@@ -336,7 +336,7 @@ fn makings(class: Class, rng: &mut Rng) -> Makings {
             Makings { predecessors: size.activities, orderly: 0, ..size }
         }
         Class::Genes => {
-            let candidates = rng.pick(&[Candidates::Single, Candidates::Some, Candidates::SomeOrNone]);
+            let candidates = rng.pick(&[Candidates::Single, Candidates::Several, Candidates::SeveralOrNone]);
             let predecessors = rng.pick(&[0, 3]);
             Makings { candidates, predecessors, faulty: 90, borrowed: 20, deadlines: 40, ..sized(rng, 2, 24, 1, 4) }
         }
@@ -351,7 +351,7 @@ fn makings(class: Class, rng: &mut Rng) -> Makings {
             Makings { transports: 60, self_transports: true, ..sized(rng, 2, 30, 1, 5).any_feature(rng) }
         }
         Class::LooseCandidates => {
-            let candidates = rng.pick(&[Candidates::Some, Candidates::All]);
+            let candidates = rng.pick(&[Candidates::Several, Candidates::All]);
             Makings { candidates, differ: true, loose_candidates: true, ..sized(rng, 2, 30, 2, 6) }
         }
     }
@@ -373,7 +373,7 @@ fn job_shop(rng: &mut Rng) -> Makings {
 
 fn ties(rng: &mut Rng) -> Makings {
     let durations = rng.pick(&[Durations::Bits, Durations::Bits, Durations::UpTo(1), Durations::Zero]);
-    let candidates = rng.pick(&[Candidates::Single, Candidates::All, Candidates::Some]);
+    let candidates = rng.pick(&[Candidates::Single, Candidates::All, Candidates::Several]);
     let size = sized(rng, 3, 30, 1, 4);
     let predecessors = rng.pick(&[0, size.activities / 3]);
     Makings { durations, candidates, predecessors, zeros: rng.pick(&[0, 30, 70]), deadlines: 30, ..size }
@@ -392,7 +392,7 @@ fn large(rng: &mut Rng) -> Makings {
         own_setups: 100,
         zeros: 0,
         categories: rng.within(1, CATEGORIES),
-        candidates: rng.pick(&[Candidates::Single, Candidates::Some]),
+        candidates: rng.pick(&[Candidates::Single, Candidates::Several]),
         setups: rng.pick(&[0, 50, 100]),
         transports: rng.pick(&[0, 100]),
         releases: 60,
@@ -509,9 +509,9 @@ fn machines_for(makings: &Makings, rng: &mut Rng) -> (Vec<(u32, u32)>, Vec<i32>)
         rng.shuffle(&mut machines);
         let keep = match makings.candidates {
             Candidates::Single => 1,
-            Candidates::Some => rng.index(makings.machines) + 1,
-            Candidates::SomeOrNone if rng.chance(10) => 0,
-            Candidates::SomeOrNone => rng.index(makings.machines) + 1,
+            Candidates::Several => rng.index(makings.machines) + 1,
+            Candidates::SeveralOrNone if rng.chance(10) => 0,
+            Candidates::SeveralOrNone => rng.index(makings.machines) + 1,
             Candidates::All => makings.machines,
         };
         let assigned = machines[if keep == 0 || rng.chance(makings.borrowed) { makings.machines - 1 } else { 0 }];

@@ -30,6 +30,9 @@
 //!   T ...                                           over as many lines as you like
 //! assignment
 //!   M ...                                           likewise; - for none, which is stored as -1
+//! [lines]                                           for timing, not stored
+//!   machine M: activities A ...
+//!   machine M: nothing
 //! [damage]                                          made to the stored form, in the order written
 //!   count of SECTION is N
 //!   word at byte K is N                             N unsigned, signed or 0x
@@ -48,7 +51,7 @@ mod show;
 #[cfg(test)]
 mod tests;
 
-pub use parse::parse;
+pub use parse::{lines, parse};
 pub use show::show;
 
 use std::fmt;

@@ -4,11 +4,13 @@ use super::line::{Line, Token};
 use super::{Owners, TextError, ACTIVITIES, CANDIDATES, MACHINES, NOTHING_BEFORE, ORDER};
 use super::{PREDECESSORS, SEARCH, SECTIONS, SETUPS, TASKS, TIMES};
 
-/// `damage` comes behind the sections.
-const DAMAGE: usize = SECTIONS.len();
+/// Behind the sections come two headings that may be left out.
+const LINES: usize = SECTIONS.len();
+const DAMAGE: usize = LINES + 1;
+const EXTRAS: [&str; 2] = ["lines", "damage"];
 
-/// How an entry of each section reads, for the error messages; the last is that of `damage`.
-const FORMS: [&str; 11] = [
+/// How a line under each heading reads, for the error messages.
+const FORMS: [&str; 12] = [
     "task 0: category 0, release 0, no deadline, 2 activities",
     "activity 0 (task 0, step 1): release 0",
     "machine 0: transports 0 5",
@@ -19,11 +21,23 @@ const FORMS: [&str; 11] = [
     "weight 0.5, steps 60",
     "0 0 1 1",
     "0 1 - 1",
+    "machine 0: activities 3 0",
     "word at byte 4 is 8",
 ];
 
 /// The stored form of a plan written as text.
 pub fn parse(text: &str) -> Result<Vec<u8>, TextError> {
+    read(text).map(|(bytes, _)| bytes)
+}
+
+/// The lines for timing that stand in a plan's text, machine by machine; nothing without that heading.
+pub fn lines(text: &str) -> Result<Option<Vec<Vec<u32>>>, TextError> {
+    read(text).map(|(_, lines)| lines)
+}
+
+type Read = (Vec<u8>, Option<Vec<Vec<u32>>>);
+
+fn read(text: &str) -> Result<Read, TextError> {
     let mut parser = Parser::default();
     let mut last = 1;
     let text = text.strip_prefix('\u{feff}').unwrap_or(text);
@@ -50,15 +64,16 @@ struct Parser {
     words: Vec<u32>,
     /// Where the count word of each section begun stands in `words`.
     counts: Vec<usize>,
-    /// Entries of the present section so far.
+    /// The heading that entries now stand under.
+    present: Option<usize>,
+    /// Entries under it so far.
     entries: usize,
-    /// Whether `damage` has begun.
-    damaging: bool,
     /// Whether any line has been read.
     begun: bool,
     owners: Owners,
     /// The line and the length of each machine's row, tested when the number of machines is known.
     rows: Vec<(usize, usize)>,
+    lines: Option<Vec<Vec<u32>>>,
     damages: Vec<(usize, Damage)>,
 }
 
@@ -79,67 +94,45 @@ impl Parser {
         if let Some(section) = heading(line) {
             return self.begin(line, section);
         }
-        let Some(section) = self.section() else {
+        let Some(section) = self.present else {
             return line.expected("the heading 'tasks'");
         };
-        self.entry(line, section).map_err(|error| self.explain(error, section))
-    }
-
-    /// The section that entries now belong to.
-    fn section(&self) -> Option<usize> {
-        if self.damaging {
-            return Some(DAMAGE);
-        }
-        self.counts.len().checked_sub(1)
-    }
-
-    /// An error in an entry also says how an entry reads and which heading may come.
-    fn explain(&self, error: TextError, section: usize) -> TextError {
-        if !error.message.starts_with("expected") {
-            return error;
-        }
-        let next = match section {
-            DAMAGE => String::new(),
-            _ => format!(", and the next heading is '{}'", heading_after(section)),
-        };
-        let name = SECTIONS.get(section).copied().unwrap_or("damage");
-        let form = FORMS[section];
-        TextError { line: error.line, message: format!("{} (a line of {name} reads '{form}'{next})", error.message) }
+        self.entry(line, section).map_err(|error| explain(error, section))
     }
 
     fn begin(&mut self, line: &Line<'_>, section: usize) -> Result<(), TextError> {
-        let wanted = if self.damaging { DAMAGE + 1 } else { self.counts.len() };
-        if section != wanted {
-            let found = SECTIONS.get(section).copied().unwrap_or("damage");
-            return match SECTIONS.get(wanted) {
-                Some(name) => line.fail(format!("the heading '{name}' is due here, not '{found}'")),
-                None if wanted == DAMAGE => line.fail(format!("'{found}' has been before: only 'damage' may follow")),
-                None => line.fail(format!("nothing follows 'damage', so not '{found}'")),
-            };
+        let due = self.present.map_or(TASKS, |present| present + 1);
+        if due < LINES && section != due {
+            return line.fail(format!("the heading '{}' is due here, not '{}'", name_of(due), name_of(section)));
+        }
+        if section < due {
+            return line.fail(format!("the heading '{}' comes too late here", name_of(section)));
         }
         self.close()?;
-        if section == DAMAGE {
-            self.damaging = true;
-        } else {
-            self.counts.push(self.words.len());
-            self.words.push(0);
+        self.present = Some(section);
+        match section {
+            LINES => self.lines = Some(Vec::new()),
+            DAMAGE => {}
+            _ => {
+                self.counts.push(self.words.len());
+                self.words.push(0);
+            }
         }
         Ok(())
     }
 
     /// Writes the count of the section that ends here.
     fn close(&mut self) -> Result<(), TextError> {
-        if let Some(&count) = self.counts.last() {
-            self.words[count] = self.entries as u32;
+        let entries = std::mem::take(&mut self.entries);
+        let Some(&count) = self.present.and_then(|section| self.counts.get(section)) else {
+            return Ok(());
+        };
+        self.words[count] = entries as u32;
+        let machines = self.rows.len();
+        if let Some((at, &(line, length))) = self.rows.iter().enumerate().find(|(_, row)| row.1 != machines) {
+            let message = format!("machine {at} has {length} transports, but there are {machines} machines");
+            return Err(TextError { line, message });
         }
-        if self.counts.len() == MACHINES + 1 {
-            let machines = self.rows.len();
-            if let Some((at, &(line, length))) = self.rows.iter().enumerate().find(|(_, row)| row.1 != machines) {
-                let message = format!("machine {at} has {length} transports, but there are {machines} machines");
-                return Err(TextError { line, message });
-            }
-        }
-        self.entries = 0;
         Ok(())
     }
 
@@ -153,6 +146,7 @@ impl Parser {
             SETUPS => self.setup(line),
             PREDECESSORS => self.predecessor(line),
             SEARCH => self.search(line),
+            LINES => self.machine_line(line),
             DAMAGE => self.damage(line),
             _ => self.numbers(line, section),
         }
@@ -339,6 +333,24 @@ impl Parser {
         Ok(())
     }
 
+    /// The activities that a machine's line holds.
+    fn machine_line(&mut self, line: &mut Line<'_>) -> Result<(), TextError> {
+        line.word("machine")?;
+        line.position("machine", self.entries)?;
+        line.mark(':')?;
+        let mut activities = Vec::new();
+        if !line.takes("nothing") {
+            line.word("activities")?;
+            while !line.at_end() {
+                activities.push(line.number("the number of an activity")?);
+            }
+        }
+        line.end()?;
+        self.lines.get_or_insert_with(Vec::new).push(activities);
+        self.entries += 1;
+        Ok(())
+    }
+
     fn damage(&mut self, line: &mut Line<'_>) -> Result<(), TextError> {
         let damage = if line.takes("count") {
             line.word("of")?;
@@ -374,20 +386,17 @@ impl Parser {
         Ok(())
     }
 
-    fn finish(mut self, last: usize) -> Result<Vec<u8>, TextError> {
+    fn finish(mut self, last: usize) -> Result<Read, TextError> {
         if let Some(missing) = SECTIONS.get(self.counts.len()) {
             let message = format!("the text ends before the heading '{missing}'");
             return Err(TextError { line: last, message });
         }
-        // With `damage` begun, Assignment is closed already.
-        if !self.damaging {
-            self.close()?;
-        }
+        self.close()?;
         let mut bytes: Vec<u8> = self.words.iter().flat_map(|word| word.to_le_bytes()).collect();
         for (line, damage) in &self.damages {
             self.inflict(damage, &mut bytes).map_err(|message| TextError { line: *line, message })?;
         }
-        Ok(bytes)
+        Ok((bytes, self.lines))
     }
 
     fn inflict(&self, damage: &Damage, bytes: &mut Vec<u8>) -> Result<(), String> {
@@ -418,15 +427,30 @@ fn put_word(bytes: &mut [u8], at: usize, value: u32) -> Result<(), String> {
     }
 }
 
-/// The section that a line of one word begins.
+/// The heading that a line of one word is.
 fn heading(line: &Line<'_>) -> Option<usize> {
     let &[Token::Word(word)] = line.tokens.as_slice() else {
         return None;
     };
-    if word.eq_ignore_ascii_case("damage") {
-        return Some(DAMAGE);
+    (TASKS..=DAMAGE).find(|&section| name_of(section).eq_ignore_ascii_case(word))
+}
+
+fn name_of(section: usize) -> &'static str {
+    SECTIONS.iter().chain(&EXTRAS).nth(section).copied().unwrap_or("")
+}
+
+/// An error in an entry also says how an entry reads and which heading may come.
+fn explain(error: TextError, section: usize) -> TextError {
+    if !error.message.starts_with("expected") {
+        return error;
     }
-    section_named(Token::Word(word))
+    let next = match section + 1 {
+        LINES => ", and the next heading is 'lines' or 'damage'".to_string(),
+        next if next <= DAMAGE => format!(", and the next heading is '{}'", name_of(next)),
+        _ => String::new(),
+    };
+    let (name, form) = (name_of(section), FORMS[section]);
+    TextError { line: error.line, message: format!("{} (a line of {name} reads '{form}'{next})", error.message) }
 }
 
 fn section_named(token: Token<'_>) -> Option<usize> {
@@ -434,10 +458,6 @@ fn section_named(token: Token<'_>) -> Option<usize> {
         return None;
     };
     SECTIONS.iter().position(|name| name.eq_ignore_ascii_case(word))
-}
-
-fn heading_after(section: usize) -> &'static str {
-    SECTIONS.get(section + 1).copied().unwrap_or("damage")
 }
 
 fn deadline(line: &mut Line<'_>) -> Result<(u32, u32), TextError> {

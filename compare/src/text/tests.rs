@@ -90,6 +90,23 @@ fn damage_is_done_in_the_order_written() {
 }
 
 #[test]
+fn lines_for_timing_are_read_and_not_stored() {
+    let with = |extra: &str| format!("{}{extra}", undamaged());
+    let text = with(
+        "lines\n machine 0: activities 3 0\n machine 1: nothing\n machine 2: activities\ndamage\n cut at byte 4\n",
+    );
+    assert_eq!(lines(&text), Ok(Some(vec![vec![3, 0], vec![], vec![]])));
+    assert_eq!(parse(&text).as_deref(), Ok(&[3, 0, 0, 0][..]));
+    assert_eq!(parse(&with("lines\n machine 0: activities 9\n")), parse(undamaged()));
+    assert_eq!(lines(undamaged()), Ok(None));
+    assert_eq!(lines(&with("lines\n")), Ok(Some(vec![])));
+    let says = |extra: &str| lines(&with(extra)).unwrap_err().message;
+    assert!(says("lines\n machine 1: nothing").starts_with("this is machine 0 by its position, not 1"));
+    assert!(says("lines\n machine 0: 3").starts_with("expected 'activities', found '3' (a line of lines reads"));
+    assert!(says("damage\nlines\n").starts_with("the heading 'lines' comes too late here"));
+}
+
+#[test]
 fn a_cut_past_the_end_is_told() {
     let error = parse(SAMPLE).unwrap_err();
     assert_eq!(error.line, SAMPLE.lines().count());
@@ -127,8 +144,8 @@ fn mistakes_are_told_with_their_line() {
         ("setups\n", "setup\n", "line 23: expected 'activity', found 'setup'"),
         ("setups\n", "predecessors\n", "line 23: the heading 'setups' is due here, not 'predecessors'"),
         ("tasks\n", "", "line 3: expected the heading 'tasks', found 'task'"),
-        ("damage\n", "tasks\n", "line 35: 'tasks' has been before: only 'damage' may follow"),
-        ("  cut", "damage\n", "line 40: nothing follows 'damage'"),
+        ("damage\n", "tasks\n", "line 35: the heading 'tasks' comes too late here"),
+        ("  cut", "damage\n", "line 40: the heading 'damage' comes too late here"),
         ("  cut", "plan \"again\"\n", "line 40: the title stands before everything else"),
         ("line\"", "line", "line 1: a quote is opened and not closed"),
         ("release 4", "release 4;", "line 10: the character ';' has no meaning here"),
