@@ -314,6 +314,7 @@ fn mutate(text: &str, rng: &mut Rng) -> String {
 fn mutated_texts_are_read_or_told_never_a_panic() {
     let mut rng = Rng::new(23);
     let mut texts = vec![SAMPLE.to_string(), undamaged().to_string()];
+    texts.push(format!("{}lines\n  machine 0: activities 3 0\n  machine 1: nothing\n", undamaged()));
     texts.extend((0..6).map(|seed| show(&generate::plan(seed, Class::Tiny).to_bytes()).unwrap()));
     let (mut read, mut told) = (0, 0);
     for round in 0..20_000 {
