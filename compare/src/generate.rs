@@ -913,7 +913,7 @@ fn break_lines(lines: &mut Vec<Vec<u32>>, n: u32, rng: &mut Rng) {
 #[cfg(test)]
 mod tests {
     use super::*;
-    use crate::damage::judge::judge;
+    use crate::judge::judge;
 
     const SEEDS: u64 = 150;
 

@@ -6,11 +6,18 @@ extern crate self as u_metaheur;
 extern crate self as u_numflow;
 
 pub mod answers;
+pub mod check;
+pub mod damage;
+pub mod generate;
+pub mod judge;
 pub mod lines;
 pub mod modes;
+pub mod paper;
 pub mod plan;
 pub mod published;
 pub mod read;
+pub mod store;
+pub mod text;
 
 #[allow(dead_code)]
 mod standins;

@@ -1,21 +1,67 @@
-//! `compare MODE [INPUT [LINES]]`: one stored input from a file or standard input, its answer on standard output.
+//! `compare MODE [INPUT [LINES]]`, and the tools that make, store and check inputs. An answer goes to standard output;
+//! whatever is wrong with the arguments or the files is one line on standard error and exit code 2.
 
+use std::ffi::{OsStr, OsString};
 use std::io::{Read, Write};
 use std::process::ExitCode;
 
+use compare::generate::{self, Class};
 use compare::modes::{answer, Mode};
+use compare::{check, damage, lines, store, text};
 
-const USAGE: &str = "usage: compare MODE [INPUT [LINES]]; INPUT is a file, - or nothing for standard input";
+/// Every way to call the tools; the first one stands for all modes.
+const USAGES: [&str; 9] = [
+    "MODE [INPUT [LINES]]",
+    "to-text [INPUT]",
+    "from-text [TEXT]",
+    "generate CLASS SEED",
+    "damage SEED [INPUT]",
+    "classes",
+    "check [N]",
+    "store [FOLDER]",
+    "answers-check [FOLDER]",
+];
+
+/// No file that is read here is longer; an input of document 01 has at most 65,204 bytes.
+const LONGEST_FILE: u64 = 16 << 20;
+
+/// How many inputs `check` runs unless it is told.
+const INPUTS: u64 = 10_000;
+
+/// What goes to standard output, and whether a check found a difference.
+struct Said {
+    bytes: Vec<u8>,
+    differs: bool,
+}
+
+impl From<Vec<u8>> for Said {
+    fn from(bytes: Vec<u8>) -> Said {
+        Said { bytes, differs: false }
+    }
+}
+
+impl From<String> for Said {
+    fn from(text: String) -> Said {
+        Said::from(text.into_bytes())
+    }
+}
+
+impl From<check::Report> for Said {
+    fn from(report: check::Report) -> Said {
+        Said { bytes: report.text.into_bytes(), differs: report.differences > 0 }
+    }
+}
 
 fn main() -> ExitCode {
-    let arguments: Vec<std::ffi::OsString> = std::env::args_os().skip(1).collect();
-    let arguments: Vec<String> = arguments.iter().map(|word| word.to_string_lossy().into_owned()).collect();
-    let arguments: Vec<&str> = arguments.iter().map(String::as_str).collect();
-    match dispatch(&arguments) {
-        Ok(text) => match std::io::stdout().lock().write_all(text.as_bytes()) {
-            Ok(()) => ExitCode::SUCCESS,
-            Err(_) => ExitCode::from(2), // whoever reads has left
-        },
+    let arguments: Vec<OsString> = std::env::args_os().skip(1).collect();
+    let said = dispatch(&arguments).and_then(|said| {
+        let mut out = std::io::stdout().lock();
+        let written = out.write_all(&said.bytes).and_then(|()| out.flush());
+        written.map(|()| said.differs).map_err(|why| format!("standard output: {why}"))
+    });
+    match said {
+        Ok(false) => ExitCode::SUCCESS,
+        Ok(true) => ExitCode::from(1),
         Err(message) => {
             let _ = writeln!(std::io::stderr(), "compare: {message}");
             ExitCode::from(2)
@@ -23,31 +69,123 @@ fn main() -> ExitCode {
     }
 }
 
-fn dispatch(arguments: &[&str]) -> Result<String, String> {
-    match arguments {
-        [] => Err(USAGE.to_string()),
-        [name, files @ ..] => match Mode::named(name) {
-            Some(mode) => run_mode(mode, files),
-            None => Err(format!("no mode {name}; modes are{}", Mode::ALL.map(|(name, _)| format!(" {name}")).concat())),
+fn dispatch(arguments: &[OsString]) -> Result<Said, String> {
+    let words: Vec<&str> = arguments.iter().map(|word| word.to_str().unwrap_or_default()).collect();
+    let file = |k: usize| arguments.get(k).map_or(OsStr::new("-"), OsString::as_os_str);
+    match words.as_slice() {
+        ["to-text"] | ["to-text", _] => text::show(&stored(file(1))?).map(Said::from),
+        ["from-text"] | ["from-text", _] => {
+            let name = file(1);
+            text::parse(&text_of(name)?).map(Said::from).map_err(|error| format!("{}: {error}", shown(name)))
+        }
+        ["generate", class, seed] => Ok(generate::plan(number(seed, "a seed")?, class_of(class)?).to_bytes().into()),
+        ["damage", seed] | ["damage", seed, _] => {
+            let seed = number(seed, "a seed")?;
+            Ok(damage::damage(&stored(file(2))?, seed).into())
+        }
+        ["classes"] => Ok(Class::ALL.map(|class| format!("{}\n", class.name())).concat().into()),
+        ["check"] => Ok(check::check(INPUTS)?.into()),
+        ["check", inputs] => Ok(check::check(number(inputs, "a number of inputs")?)?.into()),
+        ["store"] => Ok(store::store(store::FOLDER.as_ref())?.into()),
+        ["store", _] => Ok(store::store(file(1).as_ref())?.into()),
+        ["answers-check"] => Ok(store::check(store::FOLDER.as_ref())?.into()),
+        ["answers-check", _] => Ok(store::check(file(1).as_ref())?.into()),
+        [] => Err(format!("usage: compare {}", USAGES.join(" | "))),
+        [name, rest @ ..] => match (Mode::named(name), USAGES[1..].iter().find(|usage| is_of(usage, name))) {
+            (Some(mode), _) if rest.len() <= 1 || rest.len() == 2 && mode.takes_lines() => {
+                run_mode(mode, file(1), arguments.get(2)).map(Said::from)
+            }
+            (Some(mode), _) if mode.takes_lines() => Err(format!("usage: compare {name} [INPUT [LINES]]")),
+            (Some(_), _) => Err(format!("usage: compare {name} [INPUT]")),
+            (None, Some(usage)) => Err(format!("usage: compare {usage}")),
+            (None, None) => Err(format!(
+                "no mode {}; modes are{}; tools are{}",
+                shown(&arguments[0]),
+                Mode::ALL.map(|(name, _)| format!(" {name}")).concat(),
+                USAGES[1..].iter().map(|usage| format!(" {}", usage.split(' ').next().unwrap_or(""))).collect::<String>()
+            )),
         },
     }
 }
 
-fn run_mode(mode: Mode, files: &[&str]) -> Result<String, String> {
-    match files {
-        [] => answer(&input("-")?, mode, None),
-        [file] => answer(&input(file)?, mode, None),
-        [file, lines] if mode.takes_lines() => answer(&input(file)?, mode, Some(&input(lines)?)),
-        _ => Err(USAGE.to_string()),
+fn is_of(usage: &str, name: &str) -> bool {
+    usage.split(' ').next() == Some(name)
+}
+
+/// A mode on an input; on lines of its own where the input is a text that has some and no other lines are given.
+fn run_mode(mode: Mode, file: &OsStr, given: Option<&OsString>) -> Result<String, String> {
+    if given.is_some_and(|given| given == "-") && file == "-" {
+        return Err("standard input is read once: it is not both the input and the lines".to_string());
+    }
+    let input = stored(file)?;
+    let words = match given {
+        Some(given) if is_text(given) => match lines_of(given)? {
+            Some(words) => Some(words),
+            None => return Err(format!("{}: this text has no lines", shown(given))),
+        },
+        Some(given) => Some(bytes(given)?),
+        None if mode.takes_lines() && is_text(file) => lines_of(file)?,
+        None => None,
+    };
+    answer(&input, mode, words.as_deref())
+}
+
+/// The stored form: the file itself, or what its text says where its name ends in `.plan`.
+fn stored(file: &OsStr) -> Result<Vec<u8>, String> {
+    match is_text(file) {
+        true => text::parse(&text_of(file)?).map_err(|error| format!("{}: {error}", shown(file))),
+        false => bytes(file),
     }
 }
 
+/// The lines, as words, of a text that has some.
+fn lines_of(file: &OsStr) -> Result<Option<Vec<u8>>, String> {
+    let lines = text::lines(&text_of(file)?).map_err(|error| format!("{}: {error}", shown(file)))?;
+    Ok(lines.map(|lines| lines::to_bytes(&lines)))
+}
+
+fn is_text(file: &OsStr) -> bool {
+    file.as_encoded_bytes().ends_with(b".plan")
+}
+
+fn text_of(file: &OsStr) -> Result<String, String> {
+    String::from_utf8(bytes(file)?).map_err(|error| {
+        let line = error.as_bytes()[..error.utf8_error().valid_up_to()].iter().filter(|&&byte| byte == b'\n').count() + 1;
+        format!("{}: line {line}: these bytes are no text (not UTF-8)", shown(file))
+    })
+}
+
 /// The bytes of a file, or of standard input for `-`.
-fn input(file: &str) -> Result<Vec<u8>, String> {
+fn bytes(file: &OsStr) -> Result<Vec<u8>, String> {
     let mut bytes = Vec::new();
-    match file {
-        "-" => std::io::stdin().lock().read_to_end(&mut bytes).map(|_| bytes),
-        _ => std::fs::read(file),
+    let read = match file == "-" {
+        true => std::io::stdin().lock().take(LONGEST_FILE + 1).read_to_end(&mut bytes),
+        false => std::fs::File::open(file).and_then(|open| open.take(LONGEST_FILE + 1).read_to_end(&mut bytes)),
+    };
+    match read {
+        Ok(length) if length as u64 > LONGEST_FILE => Err(format!("{}: longer than any input", shown(file))),
+        Ok(_) => Ok(bytes),
+        Err(why) => Err(format!("{}: {why}", shown(file))),
     }
-    .map_err(|why| format!("{file}: {why}"))
+}
+
+/// A name for a message of one line.
+fn shown(file: &OsStr) -> String {
+    match file == "-" {
+        true => "standard input".to_string(),
+        false => file.to_string_lossy().chars().flat_map(char::escape_debug).collect(),
+    }
+}
+
+fn number(word: &str, what: &str) -> Result<u64, String> {
+    let digits = !word.is_empty() && word.bytes().all(|byte| byte.is_ascii_digit());
+    match word.parse() {
+        Ok(number) if digits => Ok(number),
+        _ => Err(format!("{what} is a whole number from 0 to {}, not '{}'", u64::MAX, word.escape_debug())),
+    }
+}
+
+fn class_of(name: &str) -> Result<Class, String> {
+    let known = || Class::ALL.map(|class| format!(" {}", class.name())).concat();
+    Class::named(name).ok_or_else(|| format!("no class '{}'; classes are{}", name.escape_debug(), known()))
 }

@@ -2,26 +2,9 @@
 
 use compare::lines;
 use compare::modes::{answer, run, run_on_lines, Mode};
+use compare::paper::plan_s;
 use compare::plan::{Plan, Task, Times};
 use compare::published::{beyond_the_rust, Published};
-
-fn plan_s(steps: u32) -> Plan {
-    let task = Task { category: 0, release: 0, deadline_flag: 0, deadline: 0, activities: 2 };
-    let on_both = |process| [Times { setup: 0, process, teardown: 0 }; 2];
-    Plan {
-        tasks: vec![task.clone(), task],
-        activities: vec![0; 4],
-        transports: vec![vec![0; 2]; 2],
-        times: [3, 4, 1, 5].into_iter().flat_map(on_both).collect(),
-        candidates: vec![(0, 0), (1, 1), (2, 0), (3, 1)],
-        setups: vec![],
-        predecessors: vec![],
-        weight: 0.5f64.to_bits(),
-        steps,
-        order: vec![0, 0, 1, 1],
-        assignment: vec![0, 1, 0, 1],
-    }
-}
 
 fn lists(lines: &[&[u32]]) -> Vec<Vec<u32>> {
     lines.iter().map(|line| line.to_vec()).collect()

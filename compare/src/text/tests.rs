@@ -356,7 +356,7 @@ fn the_plans_of_this_folder_are_read() {
             let text = std::fs::read_to_string(&path).expect("a plan's text");
             let bytes = parse(&text).unwrap_or_else(|error| panic!("{}: {error}", path.display()));
             let print = expected_print(&text).unwrap_or_default();
-            match damage::judge::judge(&bytes) {
+            match crate::judge::judge(&bytes) {
                 Ok(()) => assert!(print.starts_with("outcome "), "{}", path.display()),
                 Err((number, place)) => {
                     assert_eq!(print, format!("refused {number} {place}\n"), "{}", path.display())
