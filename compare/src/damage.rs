@@ -5,6 +5,7 @@
 
 use crate::generate::{Rng, LARGEST};
 use crate::plan::{Plan, Setup, Task, Times};
+use std::collections::BTreeSet;
 
 const WORD: usize = 4;
 const MISSING: u32 = 1;
@@ -324,7 +325,7 @@ impl Collection {
                 }
             }
         }
-        for wrong in [n - 1, n + 1, 1, 128] {
+        for wrong in BTreeSet::from([n - 1, n + 1, 1, 128]) {
             if (1..=128).contains(&wrong) && wrong != n {
                 let name = format!("rule: Activities count is {wrong}, but the tasks' sum is {n}");
                 self.change(name, &[(count, wrong)], RULE, count);
@@ -759,7 +760,6 @@ mod tests {
     use crate::judge::judge;
     use super::*;
     use crate::generate::{self, Class};
-    use std::collections::BTreeSet;
 
     fn check_all(plan: &Plan) -> usize {
         assert_eq!(judge(&plan.to_bytes()), Ok(()));
