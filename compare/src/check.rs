@@ -8,7 +8,6 @@ use std::path::Path;
 use std::sync::atomic::{AtomicU64, Ordering};
 use std::sync::Mutex;
 
-use crate::answers::Improved;
 use crate::damage;
 use crate::generate::{self, Class};
 use crate::judge::judge;
@@ -36,6 +35,10 @@ struct Tally {
     inputs: u64,
     /// How often `improve` ended with 10 to 14.
     outcomes: [u64; 5],
+    /// Of 13 and 14: how often the sheet's fitness is not the best line fitness.
+    apart: u64,
+    /// Of 14: how often the sheet got worse.
+    worse: u64,
     /// How often a damaged input was accepted after all, or refused with 1 to 5.
     damaged: [u64; 6],
     differences: Vec<String>,
@@ -52,14 +55,19 @@ pub fn check(inputs: u64) -> Result<Report, String> {
         add(by_class.entry(k).or_default(), tally);
     }
 
-    let mut text = String::from("                           outcome of improve                      |   damaged: number given\n");
-    text += "class               inputs      10      11      12      13      14   |    none       1       2       3       4       5\n";
+    let mut text = format!("{:<18}{:>8}{:>40}   |{:>48}\n", "", "", "outcome of improve", "refused, when damaged");
+    let numbers = |heads: &[&str]| heads.iter().map(|head| format!("{head:>8}")).collect::<String>();
+    let (outcomes, refusals) = (numbers(&["10", "11", "12", "13", "14"]), numbers(&["no", "1", "2", "3", "4", "5"]));
+    let _ = writeln!(text, "{:<18}{:>8}{outcomes}   |{refusals}", "class", "inputs");
     let mut all = Tally::default();
     for (k, tally) in by_class {
         put_row(&mut text, Class::ALL[k].name(), &tally);
         add(&mut all, tally);
     }
     put_row(&mut text, "all", &all);
+    let (searched, improved) = (all.outcomes[3] + all.outcomes[4], all.outcomes[4]);
+    let _ = writeln!(text, "line fitness is not the sheet's: {} of {searched} with outcome 13 or 14", all.apart);
+    let _ = writeln!(text, "the sheet got worse: {} of {improved} with outcome 14", all.worse);
     differences.append(&mut all.differences);
     let _ = writeln!(text, "every damage of the samples: {damaged} inputs refused as said by both readers");
     let _ = writeln!(text, "named plans: {}; Plan S with steps 0, 1, 2, 60", plans.len());
@@ -80,6 +88,8 @@ fn add(to: &mut Tally, from: Tally) {
     to.inputs += from.inputs;
     to.outcomes.iter_mut().zip(from.outcomes).for_each(|(to, from)| *to += from);
     to.damaged.iter_mut().zip(from.damaged).for_each(|(to, from)| *to += from);
+    to.apart += from.apart;
+    to.worse += from.worse;
     to.differences.extend(from.differences);
 }
 
@@ -148,10 +158,9 @@ fn of_input(class: Class, seed: u64) -> Tally {
     if text::show(&bytes).map(|text| text::parse(&text)) != Ok(Ok(bytes.clone())) {
         found.push("does not come back from its text".to_string());
     }
-    let improved = of_modes(&plan, &bytes, &mut found);
-    of_lines(&plan, seed, &mut found);
     let mut tally = Tally { inputs: 1, ..Tally::default() };
-    tally.outcomes[improved.outcome as usize - 10] += 1;
+    of_modes(&plan, &bytes, &mut tally, &mut found);
+    of_lines(&plan, seed, &mut found);
     // The classes' damages are to differ too.
     let damaged = damage::damage(&bytes, seed ^ (class as u64) << 40);
     tally.damaged[of_damage(&damaged, &mut found)] += 1;
@@ -160,7 +169,7 @@ fn of_input(class: Class, seed: u64) -> Tally {
 }
 
 /// Every mode, and what two of them must have in common.
-fn of_modes(plan: &Plan, bytes: &[u8], found: &mut Vec<String>) -> Improved {
+fn of_modes(plan: &Plan, bytes: &[u8], tally: &mut Tally, found: &mut Vec<String>) {
     let mut prints = BTreeMap::new();
     for (name, mode) in Mode::ALL {
         match answer(bytes, mode, None) {
@@ -173,6 +182,9 @@ fn of_modes(plan: &Plan, bytes: &[u8], found: &mut Vec<String>) -> Improved {
     let [before, in_order, active] = [Decoder::Better, Decoder::InOrder, Decoder::Active].map(|d| published.decode(d));
     let improved = published.improve();
     let after = published.decode(Decoder::Better);
+    tally.outcomes[improved.outcome as usize - 10] += 1;
+    tally.apart += u64::from(improved.fitness.is_some_and(|fitness| fitness != after.fitness));
+    tally.worse += u64::from(f64::from_bits(after.fitness) > f64::from_bits(before.fitness));
     let mut must = |holds: bool, what: &str| {
         if !holds {
             found.push(what.to_string());
@@ -191,7 +203,6 @@ fn of_modes(plan: &Plan, bytes: &[u8], found: &mut Vec<String>) -> Improved {
         let placed = published.decode(Decoder::InOrder);
         must(Some(placed.fitness) == improved.fitness, "the new order does not place to the best line fitness");
     }
-    improved
 }
 
 /// `time` and `step` on given lines: both refuse, or both answer with one fitness.

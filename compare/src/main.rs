@@ -91,7 +91,7 @@ fn dispatch(arguments: &[OsString]) -> Result<Said, String> {
         ["answers-check"] => Ok(store::check(store::FOLDER.as_ref())?.into()),
         ["answers-check", _] => Ok(store::check(file(1).as_ref())?.into()),
         [] => Err(format!("usage: compare {}", USAGES.join(" | "))),
-        [name, rest @ ..] => match (Mode::named(name), USAGES[1..].iter().find(|usage| is_of(usage, name))) {
+        [name, rest @ ..] => match (Mode::named(name), USAGES[1..].iter().find(|usage| name_in(usage) == *name)) {
             (Some(mode), _) if rest.len() <= 1 || rest.len() == 2 && mode.takes_lines() => {
                 run_mode(mode, file(1), arguments.get(2)).map(Said::from)
             }
@@ -102,14 +102,14 @@ fn dispatch(arguments: &[OsString]) -> Result<Said, String> {
                 "no mode {}; modes are{}; tools are{}",
                 shown(&arguments[0]),
                 Mode::ALL.map(|(name, _)| format!(" {name}")).concat(),
-                USAGES[1..].iter().map(|usage| format!(" {}", usage.split(' ').next().unwrap_or(""))).collect::<String>()
+                USAGES[1..].iter().map(|usage| format!(" {}", name_in(usage))).collect::<String>()
             )),
         },
     }
 }
 
-fn is_of(usage: &str, name: &str) -> bool {
-    usage.split(' ').next() == Some(name)
+fn name_in(usage: &str) -> &str {
+    usage.split(' ').next().unwrap_or(usage)
 }
 
 /// A mode on an input; on lines of its own where the input is a text that has some and no other lines are given.
@@ -150,7 +150,8 @@ fn is_text(file: &OsStr) -> bool {
 
 fn text_of(file: &OsStr) -> Result<String, String> {
     String::from_utf8(bytes(file)?).map_err(|error| {
-        let line = error.as_bytes()[..error.utf8_error().valid_up_to()].iter().filter(|&&byte| byte == b'\n').count() + 1;
+        let read = &error.as_bytes()[..error.utf8_error().valid_up_to()];
+        let line = read.iter().filter(|&&byte| byte == b'\n').count() + 1;
         format!("{}: line {line}: these bytes are no text (not UTF-8)", shown(file))
     })
 }

@@ -8,7 +8,8 @@ use compare::store;
 
 fn files(folder: &Path) -> BTreeMap<String, String> {
     let entries = fs::read_dir(folder).expect("the folder is there");
-    let file = |path: PathBuf| (path.file_name().unwrap().to_string_lossy().into_owned(), fs::read_to_string(path).unwrap());
+    let name = |path: &Path| path.file_name().unwrap().to_string_lossy().into_owned();
+    let file = |path: PathBuf| (name(&path), fs::read_to_string(path).unwrap());
     entries.map(|entry| file(entry.unwrap().path())).collect()
 }
 

@@ -44,5 +44,15 @@ fn the_page_of_differences_is_true() {
 
 #[test]
 fn the_readme_is_true() {
-    holds("compare/README.md", 0);
+    holds("compare/README.md", 1);
+}
+
+#[test]
+fn the_plan_on_the_readme_prints_what_it_says() {
+    let page = std::fs::read_to_string(Path::new(env!("CARGO_MANIFEST_DIR")).join("README.md")).expect("the page");
+    let lines = page.lines().skip_while(|line| !line.starts_with("    plan \"")).take_while(|line| !line.is_empty());
+    let plan: String = lines.map(|line| format!("{line}\n")).collect();
+    let stored = compare::text::parse(&plan).expect("a plan");
+    let print = compare::modes::answer(&stored, compare::modes::Mode::Program, None);
+    assert_eq!(print.ok(), compare::text::expected_print(&plan));
 }
