@@ -123,7 +123,7 @@ fn odd_names_and_closed_pipes_do_no_harm() {
     use std::os::unix::ffi::OsStringExt;
     let odd = OsString::from_vec(b"no-\xff-such".to_vec());
     is_one_line_and_2(&[OsString::from("program"), odd.clone()], &[]);
-    is_one_line_and_2(&[odd.clone()], &[]);
+    is_one_line_and_2(&[odd], &[]);
     let sample = fs::read(plan("plan-s-steps-60")).expect("a plan");
     let path = Path::new(env!("CARGO_TARGET_TMPDIR")).join(OsString::from_vec(b"\xff.plan".to_vec()));
     fs::write(&path, sample).expect("a file for the test");
