@@ -1,0 +1,55 @@
+-- Laws of a text written over a line: what it holds where the text fits, and that its length never changes.
+use Prim.Native.Nat.{ℕ, zero, suc, _+_, _-_, _≤_, _<_}
+use mathlib.Core.Path.{_≡_, refl, sym, _∙_, ap}
+use mathlib.Core.Bool.{Bool, true, false, cond}
+use mathlib.Core.List.{List, [], _∷_, _++_}
+use native.Mathlib.Omega.{arith}
+use borrow.Author.Tests.{le-leb, lt-leb, leb-true, leb-false}
+use native.Mathlib.Nat.{add-zero}
+use lib.Dec.{leb}
+use lib.ListN.{length, take, drop, set}
+use lib.Seq.{sets, sets-eq, length-sets, set-comm}
+use Rattle.words.specs.Text.{fits, written, placeAfter}
+
+-- A text that fits is stored byte by byte, and the place after it is as far on as the text is long.
+pub written-fits : (line : List ℕ) (at : ℕ) (text : List ℕ) → at + length text ≤ length line → written line at text ≡ sets line at text
+unfolding written
+written-fits line at text h = rw (le-leb _ _ h) (sym (sets-eq text line at h))
+
+pub placeAfter-fits : (line : List ℕ) (at : ℕ) (text : List ℕ) → at + length text ≤ length line → placeAfter line at text ≡ at + length text
+unfolding placeAfter
+placeAfter-fits line at text h = rw (le-leb _ _ h)
+
+-- A text that does not fit changes nothing.
+pub written-full : (line : List ℕ) (at : ℕ) (text : List ℕ) → length line < at + length text → written line at text ≡ line
+unfolding written
+written-full line at text h = rw (lt-leb _ _ h)
+
+pub placeAfter-full : (line : List ℕ) (at : ℕ) (text : List ℕ) → length line < at + length text → placeAfter line at text ≡ at
+unfolding placeAfter
+placeAfter-full line at text h = rw (lt-leb _ _ h)
+
+pub length-written : (line : List ℕ) (at : ℕ) (text : List ℕ) → length (written line at text) ≡ length line
+length-written line at text = by-room (leb (at + length text) (length line)) refl
+  where
+    by-room : (b : Bool) → leb (at + length text) (length line) ≡ b → length (written line at text) ≡ length line
+    by-room true e = ap length (written-fits line at text (leb-true _ _ e)) ∙ length-sets line at text
+    by-room false e = ap length (written-full line at text (leb-false _ _ e))
+
+-- The test of the room that forms no sum.
+pub room-left : (room at n : ℕ) → n ≤ room → leb at (room - n) ≡ fits room at n
+room-left room at n h = by-room (leb (at + n) room) refl
+  where
+    by-room : (b : Bool) → leb (at + n) room ≡ b → leb at (room - n) ≡ b
+    by-room true e = let l = leb-true (at + n) room e in le-leb at (room - n) (omega arith)
+    by-room false e = let l = leb-false (at + n) room e in lt-leb at (room - n) (omega arith)
+
+-- The last byte of a text may be stored first: how digits are put, from the last to the first.
+pub sets-last : (line : List ℕ) (at : ℕ) (text : List ℕ) (b : ℕ) → sets line at (text ++ b ∷ []) ≡ sets (set line (at + length text) b) at text
+sets-last line at [] b = rw (add-zero at)
+sets-last line at (a ∷ text) b =
+    let far : (at ≡ suc at + length text → ⊥) = λ e. omega arith in
+    let e : suc at + length text ≡ at + suc (length text) = omega arith in
+    sets-last (set line at a) (suc at) text b
+    ∙ ap (λ (l : List ℕ). sets l (suc at) text) (set-comm line at (suc at + length text) a b far)
+    ∙ ap (λ (i : ℕ). sets (set (set line i b) at a) (suc at) text) e

@@ -1,0 +1,31 @@
+-- `words::signed::signed_word` meets its contract.
+use mathlib.Core.Path.{_∙_}
+use native.Mathlib.Omega.{arith}
+use borrow.Author.Needs.{needs}
+use mir.Syntax.{w32}
+use mir.Facts.{toZ-ofZ, toZ-pos}
+use Rattle.words.proofs.SignedLaws.{signed-low, flip-high, high-fits}
+use Rattle.words.proofs.signed.signed_word.Statement.{statement}
+use Rattle.words.proofs.signed.signed_word.Tie as tie
+
+cast-result : tie.Need-cast-result
+cast-result c = search needs
+
+returns : tie.Need-returns
+returns c = rw (signed-low (c .before .args .w) (c .if1 .taken)) (toZ-pos w32 {n = c .before .args .w} (omega arith))
+
+sub-result : tie.Need-sub-result
+sub-result c = search needs
+
+cast-result-2 : tie.Need-cast-result-2
+cast-result-2 c = search needs
+
+sub-result-2 : tie.Need-sub-result-2
+sub-result-2 c = high-fits (c .before .args .w) (c .if1 .left) (omega arith)
+
+returns-2 : tie.Need-returns-2
+returns-2 c = let w = c .before .args .w in toZ-ofZ (high-fits w (c .if1 .left) (omega arith)) ∙ flip-high w (c .if1 .left) (omega arith)
+
+pub signed-word-spec : {M : Type 1} → statement M
+signed-word-spec =
+    tie.close (tie.spec cast-result returns sub-result cast-result-2 sub-result-2 returns-2)
