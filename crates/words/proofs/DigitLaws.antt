@@ -38,7 +38,10 @@ spelled-last b n (a ∷ ds) d = spelled-last b (b * n + worth a) ds d
 shorter : (b k n : ℕ) → 0 < b → n < b ^ suc k → n / b < b ^ k
 shorter b k n p h = div-lt-iff-lt-mul p .1 (rw (pow-suc b k) at h)
 
--- Digits put into a line from the last to the first: what is left to put at a place i, and that nothing is once i has come down to the first.
+-- Digits put into a line from the last to the first: all are left to put at the end, one fewer at each place before it, and none at the first.
+pub put-none : (b : ℕ) (line : List ℕ) (at k n : ℕ) {i : ℕ} → i ≡ at + k → sets line at (lastDigits b (i - at) n) ≡ sets line at (lastDigits b k n)
+put-none b line at k n {i} e = let all : i - at ≡ k = omega arith in rw all
+
 pub put-digit : (b : ℕ) (line : List ℕ) (at i n : ℕ) → at < i
     → sets (set line (i - 1) (digit (n % b))) at (lastDigits b (i - 1 - at) (n / b)) ≡ sets line at (lastDigits b (i - at) n)
 unfolding lastDigits

@@ -36,6 +36,19 @@ length-written line at text = by-room (leb (at + length text) (length line)) ref
     by-room true e = ap length (written-fits line at text (leb-true _ _ e)) ∙ length-sets line at text
     by-room false e = ap length (written-full line at text (leb-false _ _ e))
 
+-- The place after a text is within the line, where the place before was.
+pub placeAfter-within : (line : List ℕ) (at : ℕ) (text : List ℕ) → at ≤ length line → placeAfter line at text ≤ length line
+placeAfter-within line at text h = by-room (leb (at + length text) (length line)) refl
+  where
+    by-room : (b : Bool) → leb (at + length text) (length line) ≡ b → placeAfter line at text ≤ length line
+    by-room true e = let l = leb-true _ _ e in rw (placeAfter-fits line at text l) l
+    by-room false e = rw (placeAfter-full line at text (leb-false _ _ e)) h
+
+-- The same by what a `put_` function says of its line and of its answer: how a chain of them stays within the line.
+pub put-within : (line : List ℕ) (at : ℕ) (text : List ℕ) {next : List ℕ} {end : ℕ} → at ≤ length line
+    → next ≡ written line at text → end ≡ placeAfter line at text → end ≤ length next
+put-within line at text h e p = omega (arith, ap length e, length-written line at text, placeAfter-within line at text h)
+
 -- The test of the room that forms no sum.
 pub room-left : (room at n : ℕ) → n ≤ room → leb at (room - n) ≡ fits room at n
 room-left room at n h = by-room (leb (at + n) room) refl

@@ -6,6 +6,7 @@ use mathlib.Core.Logic.{_≢_}
 use mathlib.Core.Bool.{Bool, true, false}
 use mathlib.Core.List.{List, [], _∷_, _++_, append-assoc}
 use native.Mathlib.Omega.{arith}
+use native.Mathlib.Numerals.{add-one, add-two, add-three}
 use borrow.Author.Tests.{ltb-true, ltb-false}
 use lib.Dec.{ltb}
 use lib.ListN.{length, getD, set, drop, length-append, List·getD-eq-default}
@@ -112,6 +113,15 @@ bytes-words (a ∷ b ∷ c ∷ d ∷ s) h l =
 pub put-fits : (s : List ℕ) (k w : ℕ) → k < length s / 4 → putWord s k w ≡ sets s (4 * k) (bytes4 w)
 unfolding putWord
 put-fits s k w h = written-fits s (4 * k) (bytes4 w) (omega arith)
+
+-- Four stores put a word: each place and each byte is given by an equation, for numbers in the form that the code has them.
+
+pub put-stored : (s : List ℕ) (k w : ℕ) {p q r t a b c d : ℕ} → k < length s / 4
+    → p ≡ 4 * k → q ≡ 4 * k + 1 → r ≡ 4 * k + 2 → t ≡ 4 * k + 3
+    → a ≡ w % 256 → b ≡ w / 256 % 256 → c ≡ w / 65536 % 256 → d ≡ w / 16777216
+    → set (set (set (set s p a) q b) r c) t d ≡ putWord s k w
+put-stored s k w h ep eq er et ea eb ec ed =
+    rw (ep, eq, er, et, ea, eb, ec, ed, add-one (4 * k), add-two (4 * k), add-three (4 * k)) (sym (put-fits s k w h))
 
 words-sets : (s : List ℕ) (k w : ℕ) → k < length s / 4 → words (sets s (4 * k) (bytes4 w)) ≡ set (words s) k w
 unfolding words

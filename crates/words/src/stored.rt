@@ -36,11 +36,11 @@ pub fn put_word(buf: &mut [u8], k: usize, w: u32)
     if buf.len() / 4 <= k {
         return;
     }
-    let at = 4 * k;
-    let second = at + 1;
-    let third = second + 1;
-    let fourth = third + 1;
-    buf[at] = (w % 256) as u8;
+    let first = 4 * k;
+    let second = first + 1;
+    let third = first + 2;
+    let fourth = first + 3;
+    buf[first] = (w % 256) as u8;
     buf[second] = (w / 256 % 256) as u8;
     buf[third] = (w / 65536 % 256) as u8;
     buf[fourth] = (w / 16777216) as u8;

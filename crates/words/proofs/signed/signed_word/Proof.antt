@@ -12,7 +12,7 @@ cast-result : tie.Need-cast-result
 cast-result c = search needs
 
 returns : tie.Need-returns
-returns c = rw (signed-low (c .before .args .w) (c .if1 .taken)) (toZ-pos w32 {n = c .before .args .w} (omega arith))
+returns c = rw (signed-low (c .before .args .w) (omega arith)) (toZ-pos w32 {n = c .before .args .w} (omega arith))
 
 sub-result : tie.Need-sub-result
 sub-result c = search needs
@@ -21,10 +21,10 @@ cast-result-2 : tie.Need-cast-result-2
 cast-result-2 c = search needs
 
 sub-result-2 : tie.Need-sub-result-2
-sub-result-2 c = high-fits (c .before .args .w) (c .if1 .left) (omega arith)
+sub-result-2 c = high-fits (c .before .args .w) (omega arith) (omega arith)
 
 returns-2 : tie.Need-returns-2
-returns-2 c = let w = c .before .args .w in toZ-ofZ (high-fits w (c .if1 .left) (omega arith)) ∙ flip-high w (c .if1 .left) (omega arith)
+returns-2 c = let w = c .before .args .w in toZ-ofZ (high-fits w (omega arith) (omega arith)) ∙ flip-high w (omega arith) (omega arith)
 
 pub signed-word-spec : {M : Type 1} → statement M
 signed-word-spec =

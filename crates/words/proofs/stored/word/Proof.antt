@@ -1,12 +1,13 @@
 -- `words::stored::word` meets its contract. Each branch is a law of the words: past the last whole word, or its four bytes.
 use mathlib.Core.Path.{sym, _∙_}
 use borrow.Author.Needs.{needs}
+use native.Mathlib.Omega.{arith}
 use Rattle.words.proofs.WordLaws.{words-at, words-past}
 use Rattle.words.proofs.stored.word.Statement.{statement}
 use Rattle.words.proofs.stored.word.Tie as tie
 
 returns : tie.Need-returns
-returns c = sym (words-past _ _ (c .if1 .taken))
+returns c = sym (words-past _ _ (omega arith))
 
 mul-at : tie.Need-mul-at
 mul-at c = search needs
@@ -36,7 +37,7 @@ le-requires : tie.Need-le-requires
 le-requires c κs = search needs
 
 returns-2 : tie.Need-returns-2
-returns-2 c = c .le .ensures ∙ sym (words-at _ _ (c .before .before .before .before .before .if1 .left))
+returns-2 c = c .le .ensures ∙ sym (words-at _ _ (omega arith))
 
 pub word-spec : {M : Type 1} → statement M
 word-spec =

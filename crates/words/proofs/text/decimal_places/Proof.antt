@@ -23,10 +23,10 @@ loop-less : tie.Need-loop-less Inv-loop μ-loop
 loop-less c = omega arith
 
 loop-again : tie.Need-loop-again Inv-loop μ-loop
-loop-again c = omega (arith, places-more (c .before .loop .rest) (c .loop-test .taken))
+loop-again c = omega (arith, places-more (c .before .loop .rest) (omega arith))
 
 returns : tie.Need-returns Inv-loop μ-loop
-returns c = omega (arith, places-small (c .before .loop .rest) (c .loop-test .left))
+returns c = omega (arith, places-small (c .before .loop .rest) (omega arith))
 
 pub decimal-places-spec : {M : Type 1} → statement M
 decimal-places-spec =

@@ -13,7 +13,7 @@ add-result : tie.Need-add-result
 add-result c = search needs
 
 returns : tie.Need-returns
-returns c = rw (lt-ltb (c .args .v % 10) 10 (omega arith))
+returns c = rw (lt-ltb (c .args .v % 10) 10 (omega arith)) (omega arith)
 
 pub last-decimal-spec : {M : Type 1} → statement M
 last-decimal-spec = tie.close (tie.spec cast-result add-result returns)

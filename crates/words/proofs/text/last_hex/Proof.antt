@@ -1,4 +1,5 @@
 -- `words::text::last_hex` meets its contract.
+use native.Mathlib.Omega.{arith}
 use borrow.Author.Tests.{lt-ltb, le-ltb}
 use borrow.Author.Needs.{needs}
 use Rattle.words.proofs.text.last_hex.Statement.{statement}
@@ -14,10 +15,10 @@ add-result-2 : tie.Need-add-result-2
 add-result-2 c = search needs
 
 returns : tie.Need-returns
-returns c = rw (lt-ltb _ _ (c .if1 .taken))
+returns c = rw (lt-ltb _ _ (c .if1 .taken)) (omega arith)
 
 returns-2 : tie.Need-returns-2
-returns-2 c = rw (le-ltb _ _ (c .if1 .left))
+returns-2 c = rw (le-ltb _ _ (c .if1 .left)) (omega arith)
 
 pub last-hex-spec : {M : Type 1} → statement M
 last-hex-spec = tie.close (tie.spec cast-d add-result add-result-2 returns returns-2)

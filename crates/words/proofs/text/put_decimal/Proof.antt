@@ -8,7 +8,7 @@ use lib.ListN.{length, length-set}
 use lib.Seq.{sets}
 use Rattle.words.specs.Digits.{lastDigits, decimal}
 use Rattle.words.proofs.TextLaws.{written-fits, written-full, placeAfter-fits, placeAfter-full}
-use Rattle.words.proofs.DigitLaws.{put-digit, put-all, length-decimal}
+use Rattle.words.proofs.DigitLaws.{put-none, put-digit, put-all, length-decimal}
 use Rattle.words.proofs.text.put_decimal.Statement.{statement}
 use Rattle.words.proofs.text.put_decimal.Tie as tie
 
@@ -51,8 +51,7 @@ loop-holds : tie.Need-loop-holds Inv-loop μ-loop
 loop-holds c =
     let a = c .before .before .before .before .args in
     let n = c .before .before .decimal-places .result in
-    let all : a .at + n - a .at ≡ n = omega arith in
-    (omega arith, omega arith, refl, rw all)
+    (omega arith, omega arith, refl, put-none 10 (a .line .now) (a .at) n (a .v) (omega arith))
 
 sub-i : tie.Need-sub-i Inv-loop μ-loop
 sub-i c = omega arith

@@ -7,7 +7,7 @@ use borrow.Author.Tests.{leb-true, leb-false, not-true, not-false}
 use lib.Seq.{sets}
 use lib.ListN.{length, length-set}
 use Rattle.words.specs.Digits.{lastDigits, hex16}
-use Rattle.words.proofs.DigitLaws.{put-digit, put-all, length-hex}
+use Rattle.words.proofs.DigitLaws.{put-none, put-digit, put-all, length-hex}
 use Rattle.words.proofs.TextLaws.{written-fits, written-full, placeAfter-fits, placeAfter-full}
 use Rattle.words.proofs.text.put_hex.Statement.{statement}
 use Rattle.words.proofs.text.put_hex.Tie as tie
@@ -37,8 +37,7 @@ add-end c = let h = roomy c in search needs
 loop-holds : tie.Need-loop-holds Inv-loop μ-loop
 loop-holds c =
     let a = c .before .before .before .args in
-    let sixteen : a .at + 16 - a .at ≡ 16 = omega arith in
-    (omega arith, omega arith, refl, rw sixteen)
+    (omega arith, omega arith, refl, put-none 16 (a .line .now) (a .at) 16 (a .v) (omega arith))
 
 sub-i : tie.Need-sub-i Inv-loop μ-loop
 sub-i c = omega arith
