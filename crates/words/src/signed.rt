@@ -2,11 +2,14 @@
 ghost use mathlib.Core.Path.{_≡_};
 ghost use Rattle.words.specs.Signed.{signedWord, unsignedWord, clamp};
 
+// The first word that stands for a negative number.
+const NEGATIVE_FROM: u32 = 0x8000_0000;
+
 // The signed number that a word stands for.
 pub fn signed_word(w: u32) -> i32
     ensures { λ r. ⌜ r ≡ signedWord w ⌝ }
 {
-    if w < 0x8000_0000 {
+    if w < NEGATIVE_FROM {
         return w as i32;
     }
     -1 - ((0xFFFF_FFFF - w) as i32)
@@ -26,5 +29,5 @@ pub fn unsigned_word(v: i32) -> u32
 pub fn clamped(w: u32) -> u32
     ensures { λ r. ⌜ r ≡ clamp (signedWord w) ⌝ }
 {
-    if w < 0x8000_0000 { w } else { 0 }
+    if w < NEGATIVE_FROM { w } else { 0 }
 }

@@ -1,70 +1,53 @@
-use Rattle.words.proofs.WordLaws.{put-past, put-stored}
-use lib.ListN.{length-set}
-use native.Mathlib.Omega.{arith}
+-- `words::stored::put_word` meets its contract. Past the last whole word nothing is stored; else four stores, one after the other.
 use mathlib.Core.Path.{sym}
-use borrow.Author.Needs.{needs}
+use native.Mathlib.Omega.{arith}
+use lib.ListN.{length-set}
+use Rattle.words.proofs.WordLaws.{put-past, put-stored}
 use Rattle.words.proofs.stored.put_word.Statement.{statement}
 use Rattle.words.proofs.stored.put_word.Tie as tie
-use Rattle.words.proofs.stored.put_word.Reads as reads
-use Rattle.words.proofs.stored.put_word.Lts as lts
 
--- src/stored.rt:37:9
 returns : tie.Need-returns
 returns c = sym (put-past _ _ _ (omega arith))
 
--- src/stored.rt:39:17
 mul-first : tie.Need-mul-first
-mul-first c = search needs
+mul-first c = omega arith
 
--- src/stored.rt:40:18
 add-second : tie.Need-add-second
-add-second c = search needs
+add-second c = omega arith
 
--- src/stored.rt:41:17
 add-third : tie.Need-add-third
-add-third c = search needs
+add-third c = omega arith
 
--- src/stored.rt:42:18
 add-fourth : tie.Need-add-fourth
-add-fourth c = search needs
+add-fourth c = omega arith
 
--- src/stored.rt:43:18
 cast-buf : tie.Need-cast-buf
-cast-buf c = search needs
+cast-buf c = omega arith
 
--- src/stored.rt:43:5
 slice-write-buf : tie.Need-slice-write-buf
-slice-write-buf c = search needs
+slice-write-buf c = omega arith
 
--- src/stored.rt:44:19
 cast-buf-2 : tie.Need-cast-buf-2
-cast-buf-2 c = search needs
+cast-buf-2 c = omega arith
 
--- src/stored.rt:44:5
 slice-write-buf-2 : tie.Need-slice-write-buf-2
 slice-write-buf-2 c = simp length-set (omega arith)
 
--- src/stored.rt:45:18
 cast-buf-3 : tie.Need-cast-buf-3
-cast-buf-3 c = search needs
+cast-buf-3 c = omega arith
 
--- src/stored.rt:45:5
 slice-write-buf-3 : tie.Need-slice-write-buf-3
 slice-write-buf-3 c = simp length-set (omega arith)
 
--- src/stored.rt:46:19
 cast-buf-4 : tie.Need-cast-buf-4
-cast-buf-4 c = search needs
+cast-buf-4 c = omega arith
 
--- src/stored.rt:46:5
 slice-write-buf-4 : tie.Need-slice-write-buf-4
 slice-write-buf-4 c = simp length-set (omega arith)
 
--- src/stored.rt:33:1
 same-length : tie.Need-same-length
-same-length c = search needs
+same-length c = simp length-set
 
--- src/stored.rt:33:1
 returns-2 : tie.Need-returns-2
 returns-2 c = put-stored _ _ _ (omega arith) (omega arith) (omega arith) (omega arith) (omega arith) (omega arith) (omega arith) (omega arith) (omega arith)
 

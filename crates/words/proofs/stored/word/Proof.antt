@@ -1,6 +1,5 @@
 -- `words::stored::word` meets its contract. Each branch is a law of the words: past the last whole word, or its four bytes.
 use mathlib.Core.Path.{sym, _∙_}
-use borrow.Author.Needs.{needs}
 use native.Mathlib.Omega.{arith}
 use Rattle.words.proofs.WordLaws.{words-at, words-past}
 use Rattle.words.proofs.stored.word.Statement.{statement}
@@ -10,31 +9,31 @@ returns : tie.Need-returns
 returns c = sym (words-past _ _ (omega arith))
 
 mul-at : tie.Need-mul-at
-mul-at c = search needs
+mul-at c = omega arith
 
 shared-slice-read-le : tie.Need-shared-slice-read-le
-shared-slice-read-le c = search needs
+shared-slice-read-le c = omega arith
 
 add-le : tie.Need-add-le
-add-le c = search needs
+add-le c = omega arith
 
 shared-slice-read-le-2 : tie.Need-shared-slice-read-le-2
-shared-slice-read-le-2 c = search needs
+shared-slice-read-le-2 c = omega arith
 
 add-le-2 : tie.Need-add-le-2
-add-le-2 c = search needs
+add-le-2 c = omega arith
 
 shared-slice-read-le-3 : tie.Need-shared-slice-read-le-3
-shared-slice-read-le-3 c = search needs
+shared-slice-read-le-3 c = omega arith
 
 add-le-3 : tie.Need-add-le-3
-add-le-3 c = search needs
+add-le-3 c = omega arith
 
 shared-slice-read-le-4 : tie.Need-shared-slice-read-le-4
-shared-slice-read-le-4 c = search needs
+shared-slice-read-le-4 c = omega arith
 
 le-requires : tie.Need-le-requires
-le-requires c κs = search needs
+le-requires c κs = tt
 
 returns-2 : tie.Need-returns-2
 returns-2 c = c .le .ensures ∙ sym (words-at _ _ (omega arith))

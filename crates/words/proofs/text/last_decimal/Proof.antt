@@ -2,15 +2,14 @@
 use Prim.Native.Nat.{_%_}
 use native.Mathlib.Omega.{arith}
 use borrow.Author.Tests.{lt-ltb}
-use borrow.Author.Needs.{needs}
 use Rattle.words.proofs.text.last_decimal.Statement.{statement}
 use Rattle.words.proofs.text.last_decimal.Tie as tie
 
 cast-result : tie.Need-cast-result
-cast-result c = search needs
+cast-result c = omega arith
 
 add-result : tie.Need-add-result
-add-result c = search needs
+add-result c = omega arith
 
 returns : tie.Need-returns
 returns c = rw (lt-ltb (c .args .v % 10) 10 (omega arith)) (omega arith)

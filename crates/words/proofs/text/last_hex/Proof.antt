@@ -1,18 +1,17 @@
 -- `words::text::last_hex` meets its contract.
 use native.Mathlib.Omega.{arith}
 use borrow.Author.Tests.{lt-ltb, le-ltb}
-use borrow.Author.Needs.{needs}
 use Rattle.words.proofs.text.last_hex.Statement.{statement}
 use Rattle.words.proofs.text.last_hex.Tie as tie
 
 cast-d : tie.Need-cast-d
-cast-d c = search needs
+cast-d c = omega arith
 
 add-result : tie.Need-add-result
-add-result c = search needs
+add-result c = omega arith
 
 add-result-2 : tie.Need-add-result-2
-add-result-2 c = search needs
+add-result-2 c = omega arith
 
 returns : tie.Need-returns
 returns c = rw (lt-ltb _ _ (c .if1 .taken)) (omega arith)

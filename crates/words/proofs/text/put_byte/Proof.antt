@@ -1,7 +1,7 @@
 -- `words::text::put_byte` meets its contract.
 use mathlib.Core.Path.{sym}
 use native.Mathlib.Omega.{arith}
-use borrow.Author.Needs.{needs}
+use lib.ListN.{length-set}
 use Rattle.words.proofs.TextLaws.{written-fits, written-full, placeAfter-fits, placeAfter-full}
 use Rattle.words.proofs.text.put_byte.Statement.{statement}
 use Rattle.words.proofs.text.put_byte.Tie as tie
@@ -10,13 +10,13 @@ returns : tie.Need-returns
 returns c = (sym (written-full _ _ _ (omega arith)), sym (placeAfter-full _ _ _ (omega arith)))
 
 slice-write-line : tie.Need-slice-write-line
-slice-write-line c = search needs
+slice-write-line c = omega arith
 
 add-result : tie.Need-add-result
-add-result c = search needs
+add-result c = omega arith
 
 same-length : tie.Need-same-length
-same-length c = search needs
+same-length c = simp length-set
 
 returns-2 : tie.Need-returns-2
 returns-2 c = (sym (written-fits _ _ _ (omega arith)), sym (placeAfter-fits _ _ _ (omega arith)))

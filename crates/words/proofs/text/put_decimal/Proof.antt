@@ -2,7 +2,6 @@
 use Prim.Native.Nat.{_+_, _-_, _≤_, _<_}
 use mathlib.Core.Path.{_≡_, refl, sym, _∙_}
 use native.Mathlib.Omega.{arith}
-use borrow.Author.Needs.{needs}
 use borrow.Author.Tests.{leb-true, leb-false, not-true, not-false}
 use lib.ListN.{length, length-set}
 use lib.Seq.{sets}
@@ -45,7 +44,7 @@ returns : tie.Need-returns Inv-loop μ-loop
 returns c = (sym (written-full _ _ _ (full c)), sym (placeAfter-full _ _ _ (full c)))
 
 add-end : tie.Need-add-end Inv-loop μ-loop
-add-end c = let h = roomy c in search needs
+add-end c = let h = roomy c in omega arith
 
 loop-holds : tie.Need-loop-holds Inv-loop μ-loop
 loop-holds c =

@@ -2,7 +2,6 @@
 use Prim.Native.Nat.{_+_, _-_, _≤_, _<_}
 use mathlib.Core.Path.{_≡_, refl, sym, _∙_}
 use native.Mathlib.Omega.{arith}
-use borrow.Author.Needs.{needs}
 use borrow.Author.Tests.{leb-true, leb-false, not-true, not-false}
 use lib.Seq.{sets}
 use lib.ListN.{length, length-set}
@@ -32,7 +31,7 @@ returns : tie.Need-returns Inv-loop μ-loop
 returns c = let h = full c in (sym (written-full _ _ _ (omega (arith, length-hex (c .before .before .before .args .v)))), sym (placeAfter-full _ _ _ (omega (arith, length-hex (c .before .before .before .args .v)))))
 
 add-end : tie.Need-add-end Inv-loop μ-loop
-add-end c = let h = roomy c in search needs
+add-end c = let h = roomy c in omega arith
 
 loop-holds : tie.Need-loop-holds Inv-loop μ-loop
 loop-holds c =
