@@ -1,7 +1,7 @@
 -- Laws of digits: they spell the number they were made of, they are digits and no other bytes, a decimal number starts with no zero, and how
 -- many there are.
 use Prim.Native.Nat.{ℕ, zero, suc, _+_, _-_, _*_, _/_, _%_, _<_, _≤_, _^_}
-use mathlib.Core.Path.{_≡_, refl, sym, _∙_, ap}
+use mathlib.Core.Path.{_≡_, refl, _∙_, ap}
 use mathlib.Core.Bool.{Bool, true, false, cond}
 use mathlib.Core.Logic.{_≢_}
 use mathlib.Core.List.{List, [], _∷_, _++_}
@@ -39,20 +39,20 @@ shorter : (b k n : ℕ) → 0 < b → n < b ^ suc k → n / b < b ^ k
 shorter b k n p h = div-lt-iff-lt-mul p .1 (rw (pow-suc b k) at h)
 
 -- Digits put into a line from the last to the first: all are left to put at the end, one fewer at each place before it, and none at the first.
-pub put-none : (b : ℕ) (line : List ℕ) (at k n : ℕ) {i : ℕ} → i ≡ at + k → sets line at (lastDigits b (i - at) n) ≡ sets line at (lastDigits b k n)
-put-none b line at k n {i} e = let all : i - at ≡ k = omega arith in rw all
+pub digits-ahead : (b : ℕ) (line : List ℕ) (at k n : ℕ) {i : ℕ} → i ≡ at + k → sets line at (lastDigits b (i - at) n) ≡ sets line at (lastDigits b k n)
+digits-ahead b line at k n {i} e = let all : i - at ≡ k = omega arith in rw all
 
-pub put-digit : (b : ℕ) (line : List ℕ) (at i n : ℕ) → at < i
+pub digit-put : (b : ℕ) (line : List ℕ) (at i n : ℕ) → at < i
     → sets (set line (i - 1) (digit (n % b))) at (lastDigits b (i - 1 - at) (n / b)) ≡ sets line at (lastDigits b (i - at) n)
 unfolding lastDigits
-put-digit b line at i n h =
+digit-put b line at i n h =
     let more : i - at ≡ suc (i - 1 - at) = omega arith in
     let place : at + length (lastDigits b (i - 1 - at) (n / b)) ≡ i - 1 = omega (arith, length-last b (i - 1 - at) (n / b)) in
     rw (more, sets-last, place)
 
-pub put-all : (b : ℕ) (line : List ℕ) (at i n : ℕ) → i ≤ at → sets line at (lastDigits b (i - at) n) ≡ line
+pub digits-put : (b : ℕ) (line : List ℕ) (at i n : ℕ) → i ≤ at → sets line at (lastDigits b (i - at) n) ≡ line
 unfolding lastDigits
-put-all b line at i n h = let none : i - at ≡ 0 = omega arith in rw none
+digits-put b line at i n h = let none : i - at ≡ 0 = omega arith in rw none
 
 -- Digits in a base of at most sixteen spell the number, where there are enough of them.
 pub last-spell : (b k n : ℕ) → 0 < b → b ≤ 16 → n < b ^ k → spelled b 0 (lastDigits b k n) ≡ n
@@ -200,9 +200,9 @@ unfolding decimal places placesWithin lastDigits
 decimal-of-10 = refl
 
 -- "1101659110911"
-pub decimal-of-latest-end : decimal 1101659110911 ≡ 49 ∷ 49 ∷ 48 ∷ 49 ∷ 54 ∷ 53 ∷ 57 ∷ 49 ∷ 49 ∷ 48 ∷ 57 ∷ 49 ∷ 49 ∷ []
+pub decimal-of-largest-end : decimal 1101659110911 ≡ 49 ∷ 49 ∷ 48 ∷ 49 ∷ 54 ∷ 53 ∷ 57 ∷ 49 ∷ 49 ∷ 48 ∷ 57 ∷ 49 ∷ 49 ∷ []
 unfolding decimal places placesWithin lastDigits
-decimal-of-latest-end = refl
+decimal-of-largest-end = refl
 
 -- "18446744073709551615"
 pub decimal-of-greatest : decimal (2 ^ 64 - 1)

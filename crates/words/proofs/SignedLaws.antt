@@ -1,7 +1,7 @@
 -- Laws of signed words: the values at 0 and at both ends, the word given back, the clamp by the word alone, and what the machine's differences
 -- with -1 come to.
 use Prim.Native.Nat.{ℕ, zero, suc, _-_, _<_, _≤_, _^_}
-use mathlib.Core.Path.{_≡_, refl, sym, _∙_, ap}
+use mathlib.Core.Path.{_≡_, refl, _∙_, ap}
 use mathlib.Core.Bool.{Bool, true, false, cond}
 use native.Mathlib.Omega.{arith}
 use borrow.Author.Tests.{lt-ltb, le-ltb, ltb-true, ltb-false}
@@ -48,6 +48,13 @@ clamp-below w = by-half (ltb w (2 ^ 31)) refl
     by-half true e = ltb-true w (2 ^ 31) e
     by-half false e = omega arith
 
+pub signed-fits : (w : ℕ) → w < 2 ^ 32 → SFits w32 (signedWord w)
+signed-fits w h = by-half (ltb w (2 ^ 31)) refl
+  where
+    by-half : (b : Bool) → ltb w (2 ^ 31) ≡ b → SFits w32 (cond b (pos w) (negsuc (2 ^ 32 - 1 - w)))
+    by-half true e = record { sfits = ltb-true w (2 ^ 31) e }
+    by-half false e = let l = ltb-false w (2 ^ 31) e in record { sfits = omega arith }
+
 -- ---- words and signed numbers give each other back
 
 pub unsigned-signed : (w : ℕ) → w < 2 ^ 32 → unsignedWord (signedWord w) ≡ w
@@ -78,7 +85,7 @@ pub flip-high : (w : ℕ) → 2 ^ 31 ≤ w → w < 2 ^ 32 → negsuc 0 -ℤ toZ 
 flip-high w h l = rw (toZ-pos w32 {n = 2 ^ 32 - 1 - w} (omega arith), flip-pos (2 ^ 32 - 1 - w), signed-high w h)
 
 pub high-fits : (w : ℕ) → 2 ^ 31 ≤ w → w < 2 ^ 32 → SFits w32 (negsuc 0 -ℤ toZ w32 (2 ^ 32 - 1 - w))
-high-fits w h l = rw (flip-high w h l, signed-high w h) (record { sfits = omega arith })
+high-fits w h l = rw (flip-high w h l) (signed-fits w l)
 
 pub flip-not-negative : (z : ℤ) → ltZ z (pos 0) ≡ true → T (nonNeg (negsuc 0 -ℤ z))
 flip-not-negative (pos n) e = let h : n < 0 = ltb-true n 0 e in absurd (omega arith)

@@ -110,19 +110,6 @@ bytes-words (a ∷ b ∷ c ∷ d ∷ s) h l =
 
 -- ---- a put word
 
-pub put-fits : (s : List ℕ) (k w : ℕ) → k < length s / 4 → putWord s k w ≡ sets s (4 * k) (bytes4 w)
-unfolding putWord
-put-fits s k w h = written-fits s (4 * k) (bytes4 w) (omega arith)
-
--- Four stores put a word: each place and each byte is given by an equation, for numbers in the form that the code has them.
-
-pub put-stored : (s : List ℕ) (k w : ℕ) {p q r t a b c d : ℕ} → k < length s / 4
-    → p ≡ 4 * k → q ≡ 4 * k + 1 → r ≡ 4 * k + 2 → t ≡ 4 * k + 3
-    → a ≡ w % 256 → b ≡ w / 256 % 256 → c ≡ w / 65536 % 256 → d ≡ w / 16777216
-    → set (set (set (set s p a) q b) r c) t d ≡ putWord s k w
-put-stored s k w h ep eq er et ea eb ec ed =
-    rw (ep, eq, er, et, ea, eb, ec, ed, add-one (4 * k), add-two (4 * k), add-three (4 * k)) (sym (put-fits s k w h))
-
 words-sets : (s : List ℕ) (k w : ℕ) → k < length s / 4 → words (sets s (4 * k) (bytes4 w)) ≡ set (words s) k w
 unfolding words
 words-sets [] k w h = absurd (omega arith)
@@ -132,29 +119,42 @@ words-sets (a ∷ b ∷ c ∷ []) k w h = absurd (omega arith)
 words-sets (a ∷ b ∷ c ∷ d ∷ s) zero w h = ap (λ (v : ℕ). v ∷ words s) (whole w)
 words-sets (a ∷ b ∷ c ∷ d ∷ s) (suc k) w h = rw (four k) (ap (λ (ws : List ℕ). le32 a b c d ∷ ws) (words-sets s k w (omega arith)))
 
-pub put-past : (s : List ℕ) (k w : ℕ) → length s / 4 ≤ k → putWord s k w ≡ s
-unfolding putWord
-put-past s k w h = written-full s (4 * k) (bytes4 w) (omega arith)
+module _ (s : List ℕ) (k w : ℕ) where
+  pub put-fits : k < length s / 4 → putWord s k w ≡ sets s (4 * k) (bytes4 w)
+  unfolding putWord
+  put-fits h = written-fits s (4 * k) (bytes4 w) (omega arith)
 
-pub length-put : (s : List ℕ) (k w : ℕ) → length (putWord s k w) ≡ length s
-unfolding putWord
-length-put s k w = length-written s (4 * k) (bytes4 w)
+  pub put-past : length s / 4 ≤ k → putWord s k w ≡ s
+  unfolding putWord
+  put-past h = written-full s (4 * k) (bytes4 w) (omega arith)
 
--- Of the words, word k alone is replaced.
-pub words-put : (s : List ℕ) (k w : ℕ) → words (putWord s k w) ≡ set (words s) k w
-words-put s k w = by-room (ltb k (length s / 4)) refl
-  where
-    by-room : (b : Bool) → ltb k (length s / 4) ≡ b → words (putWord s k w) ≡ set (words s) k w
-    by-room true e = let h = ltb-true k (length s / 4) e in ap words (put-fits s k w h) ∙ words-sets s k w h
-    by-room false e =
-        let h = ltb-false k (length s / 4) e in
-        ap words (put-past s k w h) ∙ sym (set-out (words s) k w (omega (arith, length-words s)))
+  -- Four stores put a word: each place and each byte comes with an equation, so that the code's own numbers fit.
+  pub put-stored : {p q r t a b c d : ℕ} → k < length s / 4
+      → p ≡ 4 * k → q ≡ 4 * k + 1 → r ≡ 4 * k + 2 → t ≡ 4 * k + 3
+      → a ≡ w % 256 → b ≡ w / 256 % 256 → c ≡ w / 65536 % 256 → d ≡ w / 16777216
+      → set (set (set (set s p a) q b) r c) t d ≡ putWord s k w
+  put-stored h ep eq er et ea eb ec ed =
+      rw (ep, eq, er, et, ea, eb, ec, ed, add-one (4 * k), add-two (4 * k), add-three (4 * k)) (sym (put-fits h))
 
-pub put-here : (s : List ℕ) (k w : ℕ) → k < length s / 4 → getD (words (putWord s k w)) k 0 ≡ w
-put-here s k w h = rw (words-put s k w) (getD-set-same (words s) k w 0 (omega (arith, length-words s)))
+  pub length-put : length (putWord s k w) ≡ length s
+  unfolding putWord
+  length-put = length-written s (4 * k) (bytes4 w)
 
-pub put-elsewhere : (s : List ℕ) (k w j : ℕ) → j ≢ k → getD (words (putWord s k w)) j 0 ≡ getD (words s) j 0
-put-elsewhere s k w j h = rw (words-put s k w) (getD-set-other (words s) k j w 0 h)
+  -- Of the words, word k alone is replaced.
+  pub words-put : words (putWord s k w) ≡ set (words s) k w
+  words-put = by-room (ltb k (length s / 4)) refl
+    where
+      by-room : (b : Bool) → ltb k (length s / 4) ≡ b → words (putWord s k w) ≡ set (words s) k w
+      by-room true e = let h = ltb-true k (length s / 4) e in ap words (put-fits h) ∙ words-sets s k w h
+      by-room false e =
+          let h = ltb-false k (length s / 4) e in
+          ap words (put-past h) ∙ sym (set-out (words s) k w (omega (arith, length-words s)))
+
+  pub put-here : k < length s / 4 → getD (words (putWord s k w)) k 0 ≡ w
+  put-here h = rw words-put (getD-set-same (words s) k w 0 (omega (arith, length-words s)))
+
+  pub put-elsewhere : (j : ℕ) → j ≢ k → getD (words (putWord s k w)) j 0 ≡ getD (words s) j 0
+  put-elsewhere j h = rw words-put (getD-set-other (words s) k j w 0 h)
 
 -- A word put after the bytes of others: how words are written one after the other.
 sets-after : (ws s : List ℕ) (w : ℕ) → sets (bytesOf ws ++ s) (4 * length ws) (bytes4 w) ≡ bytesOf ws ++ sets s 0 (bytes4 w)
@@ -168,3 +168,9 @@ put-after ws s w h =
     put-fits (bytesOf ws ++ s) (length ws) w (omega (arith, length-append (bytesOf ws) s, length-bytes ws))
     ∙ sets-after ws s w
     ∙ rw (bytes-append ws (w ∷ []), append-assoc) (ap (λ (l : List ℕ). bytesOf ws ++ l) (sets-eq (bytes4 w) s 0 h))
+
+-- ---- an example, computed: one whole word, and a byte that is in none
+
+pub words-of-five : words (1 ∷ 2 ∷ 3 ∷ 4 ∷ 5 ∷ []) ≡ 67305985 ∷ []
+unfolding words
+words-of-five = refl

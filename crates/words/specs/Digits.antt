@@ -13,8 +13,8 @@ unfoldable pub lastDigits : ℕ → ℕ → ℕ → List ℕ
 lastDigits b zero n = []
 lastDigits b (suc k) n = lastDigits b k (n / b) ++ digit (n % b) ∷ []
 
--- How many decimal digits n has: one below ten, else one more than n / 10. The second argument says whether n is below ten, and the
--- first only bounds the steps; n of them are always enough.
+-- How many decimal digits n has: one below ten, else one more than n / 10. The first argument only bounds the steps, of which n are
+-- always enough; the second says whether n is below ten.
 unfoldable pub placesWithin : ℕ → Bool → ℕ → ℕ
 placesWithin zero small n = 1
 placesWithin (suc k) true n = 1
@@ -33,10 +33,11 @@ hex16 n = lastDigits 16 16 n
 abbrev pub IsDigit : ℕ → Type 0
 IsDigit b = (48 ≤ b) × (b < 58)
 
--- The number that digits in base b spell, after those that spelled n.
+-- What a digit stands for.
 abbrev pub worth : ℕ → ℕ
 worth d = cond (ltb d 58) (d - 48) (d - 87)
 
+-- The number that digits in base b spell, after others that spelled n.
 unfoldable pub spelled : ℕ → ℕ → List ℕ → ℕ
 spelled b n [] = n
 spelled b n (d ∷ ds) = spelled b (b * n + worth d) ds

@@ -4,7 +4,7 @@ use mathlib.Core.Bool.{cond}
 use lib.Dec.{ltb}
 use lib.IntN.{ℤ, pos, negsuc}
 
--- `negsuc n` is -1 - n
+-- `pos n` is n, and `negsuc n` is -1 - n.
 abbrev pub signedWord : ℕ → ℤ
 signedWord w = cond (ltb w (2 ^ 31)) (pos w) (negsuc (2 ^ 32 - 1 - w))
 

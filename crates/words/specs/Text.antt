@@ -5,6 +5,7 @@ use mathlib.Core.List.{List, _++_}
 use lib.ListN.{length, take, drop}
 use lib.Dec.{leb}
 
+-- Whether n bytes from a place on are within a line of the length `room`.
 abbrev pub fits : ℕ → ℕ → ℕ → Bool
 fits room at n = leb (at + n) room
 

@@ -23,7 +23,7 @@ unfoldable pub bytesOf : List ℕ → List ℕ
 bytesOf [] = []
 bytesOf (w ∷ ws) = bytes4 w ++ bytesOf ws
 
--- The bytes with word k become w; the same bytes where there is no whole word k.
+-- The bytes once word k is w; the same bytes where there is no whole word k.
 unfoldable pub putWord : List ℕ → ℕ → ℕ → List ℕ
 putWord s k w = written s (4 * k) (bytes4 w)
 

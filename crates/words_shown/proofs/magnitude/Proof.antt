@@ -1,16 +1,15 @@
 -- `words_shown::magnitude` meets its contract. -1 - v is computed first, since -v does not fit where v is -2^31.
-use Prim.Native.Nat.{ℕ, suc, _+_, _<_}
+use Prim.Native.Nat.{_+_, _<_}
 use mathlib.Core.Path.{_≡_}
 use mathlib.Core.Bool.{true}
 use native.Mathlib.Omega.{arith}
 use native.Mathlib.Numerals.{add-one}
 use borrow.Author.Needs.{needs}
 use borrow.Author.Tests.{ltb-true}
-use lib.Dec.{T}
 use lib.IntN.{ℤ, pos, negsuc, natAbs, _-ℤ_}
-use lib.Signed.{ltZ, nonNeg}
-use mir.Syntax.{w32, w64}
-use mir.Val.{SFits, Fits, toZ, ofZ}
+use lib.Signed.{ltZ}
+use mir.Syntax.{w32}
+use mir.Val.{SFits, toZ, ofZ}
 use mir.Facts.{toZ-ofZ, fits-natAbs}
 use Rattle.words.proofs.SignedLaws.{flip-neg, flip-fits, flip-not-negative, not-negative}
 use Rattle.words_shown.proofs.magnitude.Statement.{statement}

@@ -7,7 +7,7 @@ use lib.ListN.{length, length-set}
 use lib.Seq.{sets}
 use Rattle.words.specs.Digits.{lastDigits, decimal}
 use Rattle.words.proofs.TextLaws.{written-fits, written-full, placeAfter-fits, placeAfter-full}
-use Rattle.words.proofs.DigitLaws.{put-none, put-digit, put-all, length-decimal}
+use Rattle.words.proofs.DigitLaws.{digits-ahead, digit-put, digits-put, length-decimal}
 use Rattle.words.proofs.text.put_decimal.Statement.{statement}
 use Rattle.words.proofs.text.put_decimal.Tie as tie
 
@@ -50,7 +50,7 @@ loop-holds : tie.Need-loop-holds Inv-loop μ-loop
 loop-holds c =
     let a = c .before .before .before .before .args in
     let n = c .before .before .decimal-places .result in
-    (omega arith, omega arith, refl, put-none 10 (a .line .now) (a .at) n (a .v) (omega arith))
+    (omega arith, omega arith, refl, digits-ahead 10 (a .line .now) (a .at) n (a .v) (omega arith))
 
 sub-i : tie.Need-sub-i Inv-loop μ-loop
 sub-i c = omega arith
@@ -71,7 +71,7 @@ loop-again c =
       omega arith,
       omega arith,
       length-set (l .line) (l .i - 1) (c .last-decimal .result) ∙ l .inv .2,
-      rw (c .last-decimal .ensures) (put-digit 10 (l .line) (a .at) (l .i) (l .rest) (c .before .loop-test .taken) ∙ l .inv .3),
+      rw (c .last-decimal .ensures) (digit-put 10 (l .line) (a .at) (l .i) (l .rest) (c .before .loop-test .taken) ∙ l .inv .3),
     )
 
 same-length : tie.Need-same-length Inv-loop μ-loop
@@ -85,7 +85,7 @@ returns-2 c =
     let n = c .before .before .before .before .decimal-places in
     let h = roomy (c .before .before) in
     let fits : a .at + length (decimal (a .v)) ≤ length (a .line .now) = omega (arith, n .ensures, length-decimal (a .v)) in (
-      sym (put-all 10 (l .line) (a .at) (l .i) (l .rest) (c .loop-test .left))
+      sym (digits-put 10 (l .line) (a .at) (l .i) (l .rest) (c .loop-test .left))
           ∙ l .inv .3
           ∙ rw (n .ensures) (sym (written-fits (a .line .now) (a .at) (decimal (a .v)) fits)),
       rw (placeAfter-fits (a .line .now) (a .at) (decimal (a .v)) fits, length-decimal (a .v), n .ensures),

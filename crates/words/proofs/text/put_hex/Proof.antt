@@ -6,7 +6,7 @@ use borrow.Author.Tests.{leb-true, leb-false, not-true, not-false}
 use lib.Seq.{sets}
 use lib.ListN.{length, length-set}
 use Rattle.words.specs.Digits.{lastDigits, hex16}
-use Rattle.words.proofs.DigitLaws.{put-none, put-digit, put-all, length-hex}
+use Rattle.words.proofs.DigitLaws.{digits-ahead, digit-put, digits-put, length-hex}
 use Rattle.words.proofs.TextLaws.{written-fits, written-full, placeAfter-fits, placeAfter-full}
 use Rattle.words.proofs.text.put_hex.Statement.{statement}
 use Rattle.words.proofs.text.put_hex.Tie as tie
@@ -36,7 +36,7 @@ add-end c = let h = roomy c in omega arith
 loop-holds : tie.Need-loop-holds Inv-loop μ-loop
 loop-holds c =
     let a = c .before .before .before .args in
-    (omega arith, omega arith, refl, put-none 16 (a .line .now) (a .at) 16 (a .v) (omega arith))
+    (omega arith, omega arith, refl, digits-ahead 16 (a .line .now) (a .at) 16 (a .v) (omega arith))
 
 sub-i : tie.Need-sub-i Inv-loop μ-loop
 sub-i c = omega arith
@@ -57,7 +57,7 @@ loop-again c =
       omega arith,
       omega arith,
       length-set (l .line) (l .i - 1) (c .last-hex .result) ∙ l .inv .2,
-      rw (c .last-hex .ensures) (put-digit 16 (l .line) (a .at) (l .i) (l .rest) (c .before .loop-test .taken) ∙ l .inv .3),
+      rw (c .last-hex .ensures) (digit-put 16 (l .line) (a .at) (l .i) (l .rest) (c .before .loop-test .taken) ∙ l .inv .3),
     )
 
 same-length : tie.Need-same-length Inv-loop μ-loop
@@ -70,7 +70,7 @@ returns-2 c =
     let a = c .before .before .before .before .before .args in
     let h = roomy (c .before .before) in
     let fits : a .at + length (hex16 (a .v)) ≤ length (a .line .now) = omega (arith, length-hex (a .v)) in (
-      sym (put-all 16 (l .line) (a .at) (l .i) (l .rest) (c .loop-test .left))
+      sym (digits-put 16 (l .line) (a .at) (l .i) (l .rest) (c .loop-test .left))
           ∙ l .inv .3
           ∙ sym (written-fits (a .line .now) (a .at) (hex16 (a .v)) fits),
       rw (placeAfter-fits (a .line .now) (a .at) (hex16 (a .v)) fits, length-hex (a .v)),
