@@ -1,0 +1,7 @@
+pub mod Counting
+pub mod Arcs
+pub mod Order
+pub mod Starts
+pub mod Exact
+pub mod Links
+pub mod Shop

@@ -1,0 +1,6 @@
+pub enum Link {
+    To(usize),
+    Nothing,
+}
+
+pub fn nothing() {}
