@@ -5,3 +5,8 @@ pub mod OrderLaws
 pub mod StartsLaws
 pub mod Theorem
 pub mod ShopTheorem
+pub mod StackLaws
+pub mod FreeingLaws
+pub mod Stacking
+pub mod Taking
+pub mod LinkedLaws

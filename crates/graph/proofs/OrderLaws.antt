@@ -11,7 +11,7 @@ use lib.Dec.{eqb}
 use borrow.Author.Tests.{eqb-true, eqb-false}
 use Rattle.graph.specs.Counting.{countOf, sumTo, Below}
 use Rattle.graph.specs.Arcs.{Leads, one, more, Circle, arcsInto}
-use Rattle.graph.specs.Order.{State, pushIf, freeAll, order, stackFree}
+use Rattle.graph.specs.Order.{State, pushIf, freeAll, orderFrom, stackFree}
 use Rattle.graph.proofs.CountingLaws.{hit-eq, hit-ne, same?, sumTo-ap, sumTo-le, sumTo-short, sumTo-full, count-all, isZero, isZero-le, isZero-of, isZero-pos, pos-of, left, left-nil, left-none, left-some}
 use Rattle.graph.proofs.CircleLaws.{circle}
 use Rattle.graph.proofs.Invariant.{Inv, freeAll-inv, take-inv, top-new, room}
@@ -41,7 +41,7 @@ Topo n R d [] = Unit {0}
 Topo n R d (a ∷ o) = (a < n) × (countOf a d ≡ 0) × ((p : ℕ) → R p a → 0 < countOf p d) × Topo n R (a ∷ d) o
 
 -- the first activities of all that wait for nothing
-stack-below : (n : ℕ) (counts : List ℕ) (m k : ℕ) (st : List ℕ) → k + m ≡ n → Below n st → Below n (stackFree counts m k st)
+pub stack-below : (n : ℕ) (counts : List ℕ) (m k : ℕ) (st : List ℕ) → k + m ≡ n → Below n st → Below n (stackFree counts m k st)
 unfolding stackFree Below
 stack-below n counts zero k st e h = h
 stack-below n counts (suc m) k st e h = stack-below n counts m (suc k) _ (omega arith) (go (eqb (getD counts k 0) 0))
@@ -96,8 +96,8 @@ module _ (n : ℕ) (succs : ℕ → List ℕ) where
           ⊎-elim (λ e. e) (λ ne. absurd (omega (arith, v .once a (v .stacked .0), hit-eq a a refl, isZero-pos (getD counts a 0) (omega arith)))) (same? (getD counts a 0) 0)
 
   module _ (below : (a : ℕ) → a < n → Below n (succs a)) where
-    pub ordered : (fuel : ℕ) (d counts stack : List ℕ) → length d + fuel ≡ n → Inv n succs d counts stack [] → Ordered d (order succs fuel counts stack)
-    unfolding order onto Topo Below
+    pub ordered : (fuel : ℕ) (d counts stack : List ℕ) → length d + fuel ≡ n → Inv n succs d counts stack [] → Ordered d (orderFrom succs fuel counts stack)
+    unfolding orderFrom onto Topo Below
     ordered zero d counts stack e v = record { topo = tt; counts = counts; last = subst (λ s. Inv n succs d counts s []) (empty d counts stack (omega arith) v) v }
     ordered (suc fuel) d counts [] e v = record { topo = tt; counts = counts; last = v }
     ordered (suc fuel) d counts (a ∷ stack) e v =

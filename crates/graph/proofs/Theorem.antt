@@ -7,7 +7,7 @@ use native.Mathlib.Omega.{arith}
 use lib.ListN.{length, getD}
 use Rattle.graph.specs.Counting.{countOf, sumTo, Below}
 use Rattle.graph.specs.Arcs.{Graph, Waits, Circle, arcsInto}
-use Rattle.graph.specs.Order.{State, free, freeAll, pushIf, order, orderOf, stackFree}
+use Rattle.graph.specs.Order.{State, free, freeAll, pushIf, orderFrom, orderOf, stackFree}
 use Rattle.graph.specs.Starts.{Rule, timed, Monotone, Meets, heldRule}
 use Rattle.graph.specs.Exact.{Counted, graphOrder, startOf, Exact}
 use Rattle.graph.proofs.CountingLaws.{sumTo-ap, count-all, either, below-of}

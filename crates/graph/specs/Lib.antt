@@ -5,3 +5,4 @@ pub mod Starts
 pub mod Exact
 pub mod Links
 pub mod Shop
+pub mod Run

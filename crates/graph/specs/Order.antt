@@ -24,13 +24,13 @@ unfoldable pub freeAll : List ℕ → State → State
 freeAll [] s = s
 freeAll (b ∷ bs) s = freeAll bs (free b s)
 
--- the order in which activities are taken, at most `most` of them
-unfoldable pub order : (succs : ℕ → List ℕ) → ℕ → List ℕ → List ℕ → List ℕ
-order succs zero counts stack = []
-order succs (suc most) counts [] = []
-order succs (suc most) counts (a ∷ stack) =
+-- the order from here on in which activities are taken, at most `most` of them
+unfoldable pub orderFrom : (succs : ℕ → List ℕ) → ℕ → List ℕ → List ℕ → List ℕ
+orderFrom succs zero counts stack = []
+orderFrom succs (suc most) counts [] = []
+orderFrom succs (suc most) counts (a ∷ stack) =
     let s = freeAll (succs a) (record { counts = counts; stack = stack }) in
-    a ∷ order succs most (s .counts) (s .stack)
+    a ∷ orderFrom succs most (s .counts) (s .stack)
 
 -- of the m activities from k on, those that wait for nothing are put on the stack one after the other
 unfoldable pub stackFree : List ℕ → ℕ → ℕ → List ℕ → List ℕ
@@ -39,5 +39,5 @@ stackFree counts (suc m) k st = stackFree counts m (suc k) (pushIf (eqb (getD co
 
 -- the timing order of n activities
 unfoldable pub orderOf : (succs : ℕ → List ℕ) → ℕ → List ℕ → List ℕ
-unfolding order stackFree
-orderOf succs n counts = order succs n counts (stackFree counts n 0 [])
+unfolding orderFrom stackFree
+orderOf succs n counts = orderFrom succs n counts (stackFree counts n 0 [])

@@ -1,0 +1,96 @@
+-- Arrays that hold a graph: whom an activity frees is an activity, the run of the rules over them is safe, and the order is that of any
+-- graph with the same arcs. Assumes nothing.
+use mathlib.Core.Path.{_≡_, refl, sym, ap, ap₂, _∙_, subst}
+use mathlib.Core.Bool.{Bool, true, false}
+use mathlib.Core.List.{List, [], _∷_, _++_}
+use mathlib.Core.Logic.{⊎-elim}
+use Prim.Native.Nat.{ℕ, zero, suc, _+_, _-_, _≤_, _<_}
+use native.Mathlib.Numerals.{add-one}
+use native.Mathlib.Omega.{arith}
+use lib.ListN.{length, getD, take, drop}
+use lib.Dec.{eqb, ltb}
+use borrow.Author.Tests.{ltb-true}
+use Rattle.graph.specs.Counting.{countOf, Below}
+use Rattle.graph.specs.Arcs.{Graph, arcsInto}
+use Rattle.graph.specs.Order.{State, free, freeAll, pushIf, orderFrom, stackFree, orderOf}
+use Rattle.graph.specs.Exact.{Counted, graphOrder}
+use Rattle.graph.specs.Links.{linked, linkOf, toIf, partOf, succsOf, Shaped, Linked}
+use Rattle.graph.specs.Run.{Safe, SafeRun}
+use Rattle.graph.proofs.CountingLaws.{same?, below-append, sumTo-ap}
+use Rattle.graph.proofs.Invariant.{Inv, free-inv, freeAll-inv, take-inv, waiting, room}
+use Rattle.graph.proofs.OrderLaws.{start-inv, stack-below}
+use Rattle.graph.proofs.Theorem.{waits-for}
+
+-- ---- the run is safe
+
+module _ (n : ℕ) (succs : ℕ → List ℕ) (below : (a : ℕ) → a < n → Below n (succs a)) (most : ℕ) (enough : n ≤ most) where
+  safe-of : (bs d : List ℕ) (s : State) → Below n bs → Inv n succs d (s .counts) (s .stack) bs → Safe bs s most
+  unfolding Safe Below
+  safe-of [] d s h v = omega (arith, room n succs d (s .counts) (s .stack) [] v)
+  safe-of (b ∷ bs) d s h v =
+      let f = free-inv n succs b d (s .counts) (s .stack) bs (h .0) v in (
+        omega (arith, v .long, h .0),
+        waiting n succs b d (s .counts) (s .stack) bs (h .0) v,
+        omega (arith, room n succs d (free b s .counts) (free b s .stack) bs f),
+        safe-of bs d (free b s) (h .1) f,
+      )
+
+  safe-run : (left : ℕ) (d counts stack : List ℕ) → length d + left ≡ n → Inv n succs d counts stack [] → SafeRun n succs left counts stack most
+  unfolding SafeRun Below
+  safe-run zero d counts [] e v = refl
+  safe-run zero d counts (a ∷ stack) e v = absurd (omega (arith, room n succs d counts (a ∷ stack) [] v))
+  safe-run (suc left) d counts [] e v = tt
+  safe-run (suc left) d counts (a ∷ stack) e v =
+      let s : State = record { counts = counts; stack = stack } in
+      let t = take-inv n succs a d counts stack v in (
+        v .stacked .0,
+        safe-of (succs a) (a ∷ d) s (below a (v .stacked .0)) t,
+        safe-run left (a ∷ d) (freeAll (succs a) s .counts) (freeAll (succs a) s .stack) (omega arith) (freeAll-inv n succs (succs a) (a ∷ d) s (below a (v .stacked .0)) t),
+      )
+
+-- ---- whom an activity frees is an activity
+
+to-below : (n b : ℕ) (t : Bool) → ltb b n ≡ t → Below n (linked (toIf t b))
+unfolding Below
+to-below n b true e = (ltb-true _ _ e, tt)
+to-below n b false e = tt
+
+pub link-below : (links : List ℕ) (a : ℕ) → Below (length links) (linked (linkOf links a))
+link-below links a = to-below (length links) (getD links a 0) (ltb (getD links a 0) (length links)) refl
+
+drop-below : (n k : ℕ) (l : List ℕ) → Below n l → Below n (drop k l)
+unfolding Below
+drop-below n zero l h = h
+drop-below n (suc k) [] h = h
+drop-below n (suc k) (x ∷ l) h = drop-below n k l (h .1)
+
+take-below : (n k : ℕ) (l : List ℕ) → Below n l → Below n (take k l)
+unfolding Below
+take-below n zero l h = tt
+take-below n (suc k) [] h = h
+take-below n (suc k) (x ∷ l) h = (h .0, take-below n k l (h .1))
+
+pub part-below : (n : ℕ) (at list : List ℕ) (a : ℕ) → Below n list → Below n (partOf at list a)
+part-below n at list a h = take-below n (getD at (a + 1) 0 - getD at a 0) (drop (getD at a 0) list) (drop-below n (getD at a 0) list h)
+
+-- ---- offsets that rise
+
+rises : (n : ℕ) (at : List ℕ) → ((a : ℕ) → a < n → getD at a 0 ≤ getD at (a + 1) 0) → (m a : ℕ) → a + m ≡ n → getD at a 0 ≤ getD at n 0
+rises n at up zero a e = let q : a ≡ n = omega arith in rw q (omega arith)
+rises n at up (suc m) a e = omega (arith, up a (omega arith), rises n at up m (a + 1) (omega arith))
+
+pub part-within : {n : ℕ} {line task at waiting : List ℕ} → Shaped n line task at waiting → (a : ℕ) → a < n → getD at (a + 1) 0 ≤ length waiting
+part-within {n} {at = at} s a h = omega (arith, s .within, rises n at (s .rising) (n - (a + 1)) (a + 1) (omega arith))
+
+-- ---- from what `order_of` asks
+
+module _ {n : ℕ} {line task at waiting counts : List ℕ} (l : Linked n line task at waiting counts) where
+  pub freed-below : (a : ℕ) → Below n (succsOf line task at waiting a)
+  freed-below a =
+      below-append n _ _ (subst (λ k. Below k (linked (linkOf line a))) (l .shaped .lined) (link-below line a))
+      (below-append n _ _ (subst (λ k. Below k (linked (linkOf task a))) (l .shaped .tasked) (link-below task a)) (part-below n at waiting a (l .known)))
+
+  pub linked-safe : (most : ℕ) → n ≤ most → SafeRun n (succsOf line task at waiting) n counts (stackFree counts n 0 []) most
+  linked-safe most h =
+      safe-run n (succsOf line task at waiting) (λ a k. freed-below a) most h n [] counts (stackFree counts n 0 []) (omega arith)
+      (start-inv n (succsOf line task at waiting) counts (omega (arith, l .counted)) (l .right))
