@@ -10,7 +10,7 @@ use lib.Seq.{drop-cons, drop-length}
 use lib.Dec.{eqb}
 use borrow.Author.Tests.{lt-ltb, le-ltb}
 use Rattle.graph.specs.Order.{State, free, freeAll, pushIf}
-use Rattle.graph.specs.Links.{linked, linkOf}
+use Rattle.graph.specs.Links.{linked, linkOf, partOf, succsOf}
 use Rattle.graph.specs.Run.{stackOf, stateOf, Safe}
 use Rattle.graph.specs.declared.Link.{Link}
 use Rattle.graph.specs.declared.Link.the-variants.{To, Nothing}
@@ -44,6 +44,34 @@ safe-right (x ∷ xs) ys s room h = safe-right xs ys (free x s) room (h .3)
 -- the room at the stack's top
 pub safe-top : (xs c s : List ℕ) (top room : ℕ) → Safe xs (stateOf c s top) room → top ≤ room
 safe-top xs c s top room h = omega (arith, safe-room xs (stateOf c s top) room h, length-stackOf s top)
+
+-- ---- line, task and naming, one after the other
+
+module _ (line task at waiting : List ℕ) (a : ℕ) (s : State) (room : ℕ) (h : Safe (succsOf line task at waiting a) s room) where
+  abbrev by-line : List ℕ
+  by-line = linked (linkOf line a)
+
+  abbrev by-task : List ℕ
+  by-task = linked (linkOf task a)
+
+  abbrev by-name : List ℕ
+  by-name = partOf at waiting a
+
+  pub line-safe : Safe (linked (linkOf line a)) s room
+  line-safe = safe-left by-line (by-task ++ by-name) s room h
+
+  module _ {s₁ : State} (e₁ : s₁ ≡ freeAll (linked (linkOf line a)) s) where
+    pub task-safe : (room′ : ℕ) → room′ ≡ room → Safe (linked (linkOf task a)) s₁ room′
+    task-safe room′ r = rw (r, e₁) (safe-left by-task by-name (freeAll by-line s) room (safe-right by-line (by-task ++ by-name) s room h))
+
+    module _ {s₂ : State} (e₂ : s₂ ≡ freeAll (linked (linkOf task a)) s₁) where
+      pub naming-safe : (room′ : ℕ) → room′ ≡ room → Safe (partOf at waiting a) s₂ room′
+      naming-safe room′ r = rw (r, e₂, e₁) (safe-right by-task by-name (freeAll by-line s) room (safe-right by-line (by-task ++ by-name) s room h))
+
+      pub all-freed : {s₃ : State} → s₃ ≡ freeAll (partOf at waiting a) s₂ → s₃ ≡ freeAll (succsOf line task at waiting a) s
+      all-freed e₃ =
+          e₃ ∙ ap (freeAll by-name) (e₂ ∙ ap (freeAll by-task) e₁) ∙ sym (freeAll-append by-task by-name (freeAll by-line s))
+          ∙ sym (freeAll-append by-line (by-task ++ by-name) s)
 
 -- ---- a link
 

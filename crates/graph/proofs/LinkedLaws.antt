@@ -94,3 +94,20 @@ module _ {n : ℕ} {line task at waiting counts : List ℕ} (l : Linked n line t
   linked-safe most h =
       safe-run n (succsOf line task at waiting) (λ a k. freed-below a) most h n [] counts (stackFree counts n 0 []) (omega arith)
       (start-inv n (succsOf line task at waiting) counts (omega (arith, l .counted)) (l .right))
+
+  -- .. as `take_all` asks for it, once those that wait for nothing are stacked
+  pub shaped-now : Shaped (length line) line task at waiting
+  shaped-now = subst (λ k. Shaped k line task at waiting) (sym (l .shaped .lined)) (l .shaped)
+
+  module _ {st : List ℕ} (e : st ≡ stackFree counts (length counts) 0 []) where
+    stacked : st ≡ stackFree counts n 0 []
+    stacked = e ∙ ap (λ k. stackFree counts k 0 []) (l .counted)
+
+    pub safe-now : (most : ℕ) → n ≤ most → SafeRun (length line) (succsOf line task at waiting) n counts st most
+    safe-now most h =
+        subst (λ k. SafeRun k (succsOf line task at waiting) n counts st most) (sym (l .shaped .lined))
+        (subst (λ s. SafeRun n (succsOf line task at waiting) n counts s most) (sym stacked) (linked-safe most h))
+
+    pub order-now : orderFrom (succsOf line task at waiting) n counts st ≡ orderOf (succsOf line task at waiting) n counts
+    unfolding orderOf
+    order-now = ap (orderFrom (succsOf line task at waiting) n counts) stacked

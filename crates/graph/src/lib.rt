@@ -40,13 +40,7 @@ fn lower(b: usize, counts: &mut [usize], stack: &mut [usize], top: usize) -> usi
 }
 
 // Frees a's successor by one array of links, where it has one.
-fn meet(
-    a: usize,
-    links: &[usize],
-    counts: &mut [usize],
-    stack: &mut [usize],
-    top: usize,
-) -> usize
+fn meet(a: usize, links: &[usize], counts: &mut [usize], stack: &mut [usize], top: usize) -> usize
     requires { ⌜ (a < length (now links)) × Safe (linked (linkOf (now links) a)) (stateOf (now counts) (now stack) top) (length (now stack)) ⌝ }
     ensures { λ r. ⌜ stateOf (now (counts .exit)) (now (stack .exit)) r ≡ freeAll (linked (linkOf (now (links .entry)) a)) (stateOf (now (counts .entry)) (now (stack .entry)) top) ⌝ }
 {

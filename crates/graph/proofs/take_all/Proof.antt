@@ -1,72 +1,41 @@
+-- `graph::take_all` meets its contract. The loop's invariant: what is taken, then what the rules take from here, is what they take from the
+-- start; the measure is the places that are left in the order. Assumes nothing.
+use Prim.Native.Nat.{_-_}
+use lib.ListN.{length}
+use native.Mathlib.Omega.{arith}
+use Rattle.graph.proofs.Taking.{Taking, take-begin, take-end, take-place, take-known, take-asks, take-again}
+use Rattle.graph.specs.Links.{succsOf}
 use Rattle.graph.proofs.take_all.Statement.{statement}
 use Rattle.graph.proofs.take_all.Tie as tie
-use Rattle.graph.proofs.take_all.Reads as reads
-use Rattle.graph.proofs.take_all.Lts as lts
-use Rattle.graph.proofs.release.Reads as release-reads
 
 abbrev Inv-loop : tie.InvT-loop
-Inv-loop line task at waiting counts₀ stack₀ first order₀ top₀ taken₀ counts stack order top taken =
-    ?
+Inv-loop line task at waiting c₀ s₀ first o₀ top₀ taken₀ c s o top taken = Taking (length line) (succsOf line task at waiting) c₀ s₀ first o₀ c s o top taken
 
 abbrev μ-loop : tie.MeasureT-loop
-μ-loop line task at waiting counts₀ stack₀ first order₀ top₀ taken₀ counts stack order top taken =
-    ?
+μ-loop line task at waiting c₀ s₀ first o₀ top₀ taken₀ c s o top taken = length o₀ - taken
 
--- src/lib.rt:147:5
 loop-holds : tie.Need-loop-holds Inv-loop μ-loop
-loop-holds c = ?
+loop-holds c = take-begin (c .before .before .before .before .before .before .before .pre .0 .0) (c .before .before .before .before .before .before .before .pre .1)
 
--- src/lib.rt:148:9
-sub-top : tie.Need-sub-top Inv-loop μ-loop
-sub-top c = ?
-
--- src/lib.rt:149:17
-mul-a : tie.Need-mul-a Inv-loop μ-loop
-mul-a c = ?
-
--- src/lib.rt:149:17
-slice-read-a : tie.Need-slice-read-a Inv-loop μ-loop
-slice-read-a c = ?
-
--- src/lib.rt:150:9
-mul-order : tie.Need-mul-order Inv-loop μ-loop
-mul-order c = ?
-
--- src/lib.rt:150:9
 slice-write-order : tie.Need-slice-write-order Inv-loop μ-loop
-slice-write-order c = ?
+slice-write-order c = let h = take-place (c .before .before .loop .inv) (c .before .loop-test .taken) in omega arith
 
--- src/lib.rt:151:9
-add-taken : tie.Need-add-taken Inv-loop μ-loop
-add-taken c = ?
-
--- src/lib.rt:152:9
 release-requires : tie.Need-release-requires Inv-loop μ-loop
-release-requires c κs = ?
+release-requires c κs =
+    let turn = c .before .before .before in
+    ((take-known (turn .before .loop .inv) (turn .loop-test .taken), turn .before .before .before .before .before .before .before .before .before .pre .0 .1), take-asks (turn .before .loop .inv) (turn .loop-test .taken))
 
--- src/lib.rt:147:5
 loop-less : tie.Need-loop-less Inv-loop μ-loop
-loop-less c = ?
+loop-less c = let h = take-place (c .before .before .before .before .before .before .before .before .before .loop .inv) (c .before .before .before .before .before .before .before .before .loop-test .taken) in omega arith
 
--- src/lib.rt:147:5
 loop-again : tie.Need-loop-again Inv-loop μ-loop
-loop-again c = ?
+loop-again c =
+    let called = c .before .before .before .before in
+    let turn = called .before .before .before .before in
+    take-again (turn .before .loop .inv) (turn .loop-test .taken) (called .release .ensures .0) (called .release .kept .1 .1 .1 .1 .1 .0) (called .release .kept .1 .1 .1 .1 .1 .1 .0) (called .release .ensures .1)
 
--- src/lib.rt:131:1
-same-length : tie.Need-same-length Inv-loop μ-loop
-same-length c = ?
-
--- src/lib.rt:131:1
-same-length-2 : tie.Need-same-length-2 Inv-loop μ-loop
-same-length-2 c = ?
-
--- src/lib.rt:131:1
-same-length-3 : tie.Need-same-length-3 Inv-loop μ-loop
-same-length-3 c = ?
-
--- src/lib.rt:131:1
 returns : tie.Need-returns Inv-loop μ-loop
-returns c = ?
+returns c = take-end (c .before .loop .inv) (c .loop-test .left)
 
 pub take-all-spec : {M : Type 1} → statement M
 take-all-spec =
@@ -75,16 +44,16 @@ take-all-spec =
     Inv-loop
     μ-loop
     loop-holds
-    sub-top
-    mul-a
-    slice-read-a
-    mul-order
+    (λ c. omega arith)
+    (λ c. omega arith)
+    (λ c. omega arith)
+    (λ c. omega arith)
     slice-write-order
-    add-taken
+    (λ c. omega arith)
     release-requires
     loop-less
     loop-again
-    same-length
-    same-length-2
-    same-length-3
+    (λ c. omega arith)
+    (λ c. omega arith)
+    (λ c. omega arith)
     returns)
