@@ -10,3 +10,5 @@ pub mod FreeingLaws
 pub mod Stacking
 pub mod Taking
 pub mod LinkedLaws
+pub mod Holding
+pub mod Worked

@@ -58,21 +58,6 @@ to-below n b false e = tt
 pub link-below : (links : List ℕ) (a : ℕ) → Below (length links) (linked (linkOf links a))
 link-below links a = to-below (length links) (getD links a 0) (ltb (getD links a 0) (length links)) refl
 
-drop-below : (n k : ℕ) (l : List ℕ) → Below n l → Below n (drop k l)
-unfolding Below
-drop-below n zero l h = h
-drop-below n (suc k) [] h = h
-drop-below n (suc k) (x ∷ l) h = drop-below n k l (h .1)
-
-take-below : (n k : ℕ) (l : List ℕ) → Below n l → Below n (take k l)
-unfolding Below
-take-below n zero l h = tt
-take-below n (suc k) [] h = h
-take-below n (suc k) (x ∷ l) h = (h .0, take-below n k l (h .1))
-
-pub part-below : (n : ℕ) (at list : List ℕ) (a : ℕ) → Below n list → Below n (partOf at list a)
-part-below n at list a h = take-below n (getD at (a + 1) 0 - getD at a 0) (drop (getD at a 0) list) (drop-below n (getD at a 0) list h)
-
 -- ---- offsets that rise
 
 rises : (n : ℕ) (at : List ℕ) → ((a : ℕ) → a < n → getD at a 0 ≤ getD at (a + 1) 0) → (m a : ℕ) → a + m ≡ n → getD at a 0 ≤ getD at n 0
@@ -85,14 +70,14 @@ part-within {n} {at = at} s a h = omega (arith, s .within, rises n at (s .rising
 -- ---- from what `order_of` asks
 
 module _ {n : ℕ} {line task at waiting counts : List ℕ} (l : Linked n line task at waiting counts) where
-  pub freed-below : (a : ℕ) → Below n (succsOf line task at waiting a)
-  freed-below a =
+  pub freed-below : (a : ℕ) → a < n → Below n (succsOf line task at waiting a)
+  freed-below a h =
       below-append n _ _ (subst (λ k. Below k (linked (linkOf line a))) (l .shaped .lined) (link-below line a))
-      (below-append n _ _ (subst (λ k. Below k (linked (linkOf task a))) (l .shaped .tasked) (link-below task a)) (part-below n at waiting a (l .known)))
+      (below-append n _ _ (subst (λ k. Below k (linked (linkOf task a))) (l .shaped .tasked) (link-below task a)) (l .known a h))
 
   pub linked-safe : (most : ℕ) → n ≤ most → SafeRun n (succsOf line task at waiting) n counts (stackFree counts n 0 []) most
   linked-safe most h =
-      safe-run n (succsOf line task at waiting) (λ a k. freed-below a) most h n [] counts (stackFree counts n 0 []) (omega arith)
+      safe-run n (succsOf line task at waiting) freed-below most h n [] counts (stackFree counts n 0 []) (omega arith)
       (start-inv n (succsOf line task at waiting) counts (omega (arith, l .counted)) (l .right))
 
   -- .. as `take_all` asks for it, once those that wait for nothing are stacked

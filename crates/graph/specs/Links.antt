@@ -43,6 +43,6 @@ pub record Shaped (n : ℕ) (line task at waiting : List ℕ) : Type 0 where
 -- .. which name activities only, and counts that are right: as many as there are arcs into each
 pub record Linked (n : ℕ) (line task at waiting counts : List ℕ) : Type 0 where
   pub shaped : Shaped n line task at waiting
-  pub known : Below n waiting
+  pub known : (a : ℕ) → a < n → Below n (partOf at waiting a)
   pub counted : length counts ≡ n
   pub right : (b : ℕ) → b < n → getD counts b 0 ≡ arcsInto n (succsOf line task at waiting) b

@@ -1,0 +1,110 @@
+-- For callers of `order_of`: arrays that hold a graph. From that come what `order_of` requires, and what its answer says of the graph's
+-- arcs. Assumes nothing.
+use mathlib.Core.Path.{_≡_, refl, sym, ap, ap₂, _∙_, subst}
+use mathlib.Core.Bool.{Bool, true, false}
+use mathlib.Core.List.{List, [], _∷_, _++_}
+use mathlib.Core.Logic.{_↔_}
+use Prim.Native.Nat.{ℕ, zero, suc, _+_, _-_, _≤_, _<_}
+use native.Mathlib.Omega.{arith}
+use lib.ListN.{length, getD, take}
+use lib.Seq.{take-all, length-take-le}
+use lib.Dec.{eqb}
+use Rattle.graph.specs.Counting.{countOf, Below}
+use Rattle.graph.specs.Arcs.{Graph, Waits, Circle}
+use Rattle.graph.specs.Order.{State, free, freeAll, pushIf, orderFrom, stackFree, orderOf}
+use Rattle.graph.specs.Exact.{Counted, graphOrder}
+use Rattle.graph.specs.Links.{linked, linkOf, partOf, succsOf, Shaped, Linked}
+use Rattle.graph.specs.Shop.{Shop, outs, ins}
+use Rattle.graph.proofs.CountingLaws.{sumTo-ap}
+use Rattle.graph.proofs.OrderLaws.{stack-below}
+use Rattle.graph.proofs.Theorem.{waits-for, short-is-circle, circle-is-short}
+use Rattle.graph.proofs.ShopTheorem.{graph}
+
+-- the arrays have a shape, free whom the graph frees in the same order, and count for whom it waits
+pub record Holds (g : Graph) (line task at waiting counts : List ℕ) : Type 0 where
+  pub shaped : Shaped (g .n) line task at waiting
+  pub frees : (a : ℕ) → a < g .n → succsOf line task at waiting a ≡ g .succs a
+  pub sized : length counts ≡ g .n
+  pub right : (b : ℕ) → b < g .n → getD counts b 0 ≡ length (g .preds b)
+
+-- ---- successors that agree give one order
+
+below-right : (n : ℕ) (xs ys : List ℕ) → Below n (xs ++ ys) → Below n ys
+unfolding Below
+below-right n [] ys h = h
+below-right n (x ∷ xs) ys h = below-right n xs ys (h .1)
+
+free-below : (n b : ℕ) (st : List ℕ) (t : Bool) → b < n → Below n st → Below n (pushIf t b st)
+unfolding Below
+free-below n b st true h k = (h, k)
+free-below n b st false h k = k
+
+freeAll-below : (n : ℕ) (bs : List ℕ) (s : State) → Below n bs → Below n (s .stack) → Below n (freeAll bs s .stack)
+unfolding freeAll Below
+freeAll-below n [] s h k = k
+freeAll-below n (b ∷ bs) s h k = freeAll-below n bs (free b s) (h .1) (free-below n b (s .stack) (eqb (getD (s .counts) b 0 - 1) 0) (h .0) k)
+
+module _ (n : ℕ) (f g : ℕ → List ℕ) (same : (a : ℕ) → a < n → f a ≡ g a) (below : (a : ℕ) → a < n → Below n (g a)) where
+  from-agrees : (most : ℕ) (counts st : List ℕ) → Below n st → orderFrom f most counts st ≡ orderFrom g most counts st
+  unfolding orderFrom Below
+  from-agrees zero counts st h = refl
+  from-agrees (suc most) counts [] h = refl
+  from-agrees (suc most) counts (a ∷ st) h =
+      let s : State = record { counts = counts; stack = st } in
+      ap (λ (bs : List ℕ). a ∷ orderFrom f most (freeAll bs s .counts) (freeAll bs s .stack)) (same a (h .0))
+      ∙ ap (λ (o : List ℕ). a ∷ o)
+      (from-agrees most (freeAll (g a) s .counts) (freeAll (g a) s .stack) (freeAll-below n (g a) s (below a (h .0)) (h .1)))
+
+  pub order-agrees : (counts : List ℕ) → orderOf f n counts ≡ orderOf g n counts
+  unfolding orderOf Below
+  order-agrees counts = from-agrees n counts (stackFree counts n 0 []) (stack-below n counts n 0 [] (omega arith) tt)
+
+-- ---- what `order_of` requires, and what its answer says
+
+module _ {g : Graph} {line task at waiting counts : List ℕ} (h : Holds g line task at waiting counts) where
+  pub holds-counted : Counted g counts
+  holds-counted = record { long = omega (arith, h .sized); right = h .right }
+
+  pub holds-linked : Linked (g .n) line task at waiting counts
+  holds-linked =
+      record {
+        shaped = h .shaped;
+        known = λ a k.
+            below-right (g .n) (linked (linkOf task a)) (partOf at waiting a)
+            (below-right (g .n) (linked (linkOf line a)) (linked (linkOf task a) ++ partOf at waiting a) (subst (Below (g .n)) (sym (h .frees a k)) (g .succs-below a k)));
+        counted = h .sized;
+        right = λ b k.
+            h .right b k ∙ waits-for g b k
+            ∙ sumTo-ap (g .n) (λ a. countOf b (g .succs a)) (λ a. countOf b (succsOf line task at waiting a)) (λ a l. ap (countOf b) (sym (h .frees a l)));
+      }
+
+  pub holds-order : orderOf (succsOf line task at waiting) (g .n) counts ≡ graphOrder g counts
+  holds-order = order-agrees (g .n) (succsOf line task at waiting) (g .succs) (h .frees) (g .succs-below) counts
+
+  module _ (r : ℕ) (order : List ℕ) (e : take r order ≡ orderOf (succsOf line task at waiting) (g .n) counts) (fits : r ≤ length order) where
+    -- the answer is the order's length
+    pub answer-length : length (graphOrder g counts) ≡ r
+    answer-length = ap length (sym holds-order) ∙ ap length (sym e) ∙ length-take-le r order fits
+
+    -- it is short exactly when the arcs close a circle
+    pub answer-contradicts : (r < g .n) ↔ Circle (g .n) (Waits g)
+    answer-contradicts =
+        (λ k. short-is-circle g counts holds-counted (omega (arith, answer-length)), λ c. omega (arith, answer-length, circle-is-short g counts holds-counted c))
+
+    -- where it is not short, the array is the order
+    pub answer-order : length order ≤ r → order ≡ graphOrder g counts
+    answer-order k = sym (take-all r order k) ∙ e ∙ holds-order
+
+-- ---- arrays that hold a shop
+
+pub shop-holds : (s : Shop) {line task at waiting counts : List ℕ} → Shaped (s .n) line task at waiting
+    → ((a : ℕ) → a < s .n → linkOf line a ≡ s .lineSucc a) → ((a : ℕ) → a < s .n → linkOf task a ≡ s .taskSucc a)
+    → ((a : ℕ) → a < s .n → partOf at waiting a ≡ s .waiting a) → length counts ≡ s .n
+    → ((b : ℕ) → b < s .n → getD counts b 0 ≡ length (ins s b)) → Holds (graph s) line task at waiting counts
+shop-holds s shaped by-line by-task by-name sized right =
+    record {
+      shaped = shaped;
+      frees = λ a k. ap₂ _++_ (ap linked (by-line a k)) (ap₂ _++_ (ap linked (by-task a k)) (by-name a k));
+      sized = sized;
+      right = right;
+    }
