@@ -12,3 +12,5 @@ pub mod Taking
 pub mod LinkedLaws
 pub mod Holding
 pub mod Worked
+pub mod NamingLaws
+pub mod FilingLaws

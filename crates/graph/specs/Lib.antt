@@ -6,3 +6,4 @@ pub mod Exact
 pub mod Links
 pub mod Shop
 pub mod Run
+pub mod Filing

@@ -24,9 +24,13 @@ toIf false b = Nothing
 abbrev pub linkOf : List ℕ → ℕ → Link
 linkOf links a = toIf (ltb (getD links a 0) (length links)) (getD links a 0)
 
--- the part of a list between an activity's offset and the next
+-- the part of a list from one place up to another
+abbrev pub between : ℕ → ℕ → List ℕ → List ℕ
+between from to list = take (to - from) (drop from list)
+
+-- .. from an activity's offset up to the next
 abbrev pub partOf : List ℕ → List ℕ → ℕ → List ℕ
-partOf at list a = take (getD at (a + 1) 0 - getD at a 0) (drop (getD at a 0) list)
+partOf at list a = between (getD at a 0) (getD at (a + 1) 0) list
 
 -- whom an activity frees, in this order
 abbrev pub succsOf : List ℕ → List ℕ → List ℕ → List ℕ → ℕ → List ℕ

@@ -1,3 +1,9 @@
+// Whom an activity frees, the timing order by a stack, and the filing of those that name each.
+mod filing;
+
+pub use filing::clear;
+pub use filing::file_naming;
+pub use filing::tally_by;
 ghost use mathlib.Core.Path.{_≡_};
 ghost use mathlib.Core.List.{[]};
 ghost use Prim.Native.Nat.{ℕ, _+_, _-_, _<_, _≤_};
