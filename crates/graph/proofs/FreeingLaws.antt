@@ -11,7 +11,7 @@ use lib.Dec.{eqb}
 use borrow.Author.Tests.{lt-ltb, le-ltb}
 use Rattle.graph.specs.Order.{State, free, freeAll, pushIf}
 use Rattle.graph.specs.Links.{linked, linkOf, partOf, succsOf}
-use Rattle.graph.specs.Run.{stackOf, stateOf, Safe}
+use Rattle.graph.specs.Run.{stateOf, Safe}
 use Rattle.graph.specs.declared.Link.{Link}
 use Rattle.graph.specs.declared.Link.the-variants.{To, Nothing}
 use Rattle.graph.proofs.StackLaws.{length-stackOf}

@@ -14,7 +14,8 @@ use Rattle.graph.specs.Arcs.{Graph, Waits, Circle}
 use Rattle.graph.specs.Order.{State, free, freeAll, pushIf, orderFrom, stackFree, orderOf}
 use Rattle.graph.specs.Exact.{Counted, graphOrder}
 use Rattle.graph.specs.Links.{linked, linkOf, partOf, succsOf, Shaped, Linked}
-use Rattle.graph.specs.Shop.{Shop, outs, ins}
+use Rattle.graph.specs.Filing.{Filed}
+use Rattle.graph.specs.Shop.{Shop, ins}
 use Rattle.graph.proofs.CountingLaws.{sumTo-ap}
 use Rattle.graph.proofs.OrderLaws.{stack-below}
 use Rattle.graph.proofs.Theorem.{waits-for, short-is-circle, circle-is-short}
@@ -95,7 +96,12 @@ module _ {g : Graph} {line task at waiting counts : List ℕ} (h : Holds g line 
     pub answer-order : length order ≤ r → order ≡ graphOrder g counts
     answer-order k = sym (take-all r order k) ∙ e ∙ holds-order
 
--- ---- arrays that hold a shop
+-- ---- arrays that hold a shop, with those that name each as they were filed
+
+pub filed-shaped : (n : ℕ) {line task acts preds at waiting : List ℕ} → length line ≡ n → length task ≡ n → n < length at → Filed acts preds at waiting
+    → Shaped n line task at waiting
+filed-shaped n by-line by-task long f =
+    record { lined = by-line; tasked = by-task; bounded = long; rising = λ a h. f .rising a (omega arith); within = f .within n long }
 
 pub shop-holds : (s : Shop) {line task at waiting counts : List ℕ} → Shaped (s .n) line task at waiting
     → ((a : ℕ) → a < s .n → linkOf line a ≡ s .lineSucc a) → ((a : ℕ) → a < s .n → linkOf task a ≡ s .taskSucc a)

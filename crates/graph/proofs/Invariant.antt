@@ -9,7 +9,7 @@ use lib.ListN.{length, getD, set, length-set}
 use lib.Seq.{getD-set-same, getD-set-other}
 use lib.Dec.{eqb}
 use borrow.Author.Tests.{eqb-true, eqb-false}
-use Rattle.graph.specs.Counting.{countOf, sumTo, Below}
+use Rattle.graph.specs.Counting.{countOf, Below}
 use Rattle.graph.specs.Order.{State, pushIf, free, freeAll}
 use Rattle.graph.proofs.CountingLaws.{hit-eq, hit-ne, same?, sumTo-ap, sumTo-add, sumTo-le, count-all, isZero, isZero-le, isZero-of, isZero-pos, left, left-more}
 

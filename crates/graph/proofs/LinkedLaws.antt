@@ -1,25 +1,20 @@
 -- Arrays that hold a graph: whom an activity frees is an activity, the run of the rules over them is safe, and the order is that of any
 -- graph with the same arcs. Assumes nothing.
-use mathlib.Core.Path.{_≡_, refl, sym, ap, ap₂, _∙_, subst}
+use mathlib.Core.Path.{_≡_, refl, sym, ap, _∙_, subst}
 use mathlib.Core.Bool.{Bool, true, false}
-use mathlib.Core.List.{List, [], _∷_, _++_}
-use mathlib.Core.Logic.{⊎-elim}
+use mathlib.Core.List.{List, [], _∷_}
 use Prim.Native.Nat.{ℕ, zero, suc, _+_, _-_, _≤_, _<_}
-use native.Mathlib.Numerals.{add-one}
 use native.Mathlib.Omega.{arith}
-use lib.ListN.{length, getD, take, drop}
-use lib.Dec.{eqb, ltb}
+use lib.ListN.{length, getD}
+use lib.Dec.{ltb}
 use borrow.Author.Tests.{ltb-true}
-use Rattle.graph.specs.Counting.{countOf, Below}
-use Rattle.graph.specs.Arcs.{Graph, arcsInto}
-use Rattle.graph.specs.Order.{State, free, freeAll, pushIf, orderFrom, stackFree, orderOf}
-use Rattle.graph.specs.Exact.{Counted, graphOrder}
-use Rattle.graph.specs.Links.{linked, linkOf, toIf, partOf, succsOf, Shaped, Linked}
+use Rattle.graph.specs.Counting.{Below}
+use Rattle.graph.specs.Order.{State, free, freeAll, orderFrom, stackFree, orderOf}
+use Rattle.graph.specs.Links.{linked, linkOf, toIf, succsOf, Shaped, Linked}
 use Rattle.graph.specs.Run.{Safe, SafeRun}
-use Rattle.graph.proofs.CountingLaws.{same?, below-append, sumTo-ap}
+use Rattle.graph.proofs.CountingLaws.{below-append}
 use Rattle.graph.proofs.Invariant.{Inv, free-inv, freeAll-inv, take-inv, waiting, room}
-use Rattle.graph.proofs.OrderLaws.{start-inv, stack-below}
-use Rattle.graph.proofs.Theorem.{waits-for}
+use Rattle.graph.proofs.OrderLaws.{start-inv}
 
 -- ---- the run is safe
 

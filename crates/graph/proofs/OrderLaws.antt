@@ -4,15 +4,15 @@ use mathlib.Core.Path.{_≡_, refl, sym, ap, _∙_, subst}
 use mathlib.Core.Bool.{Bool, true, false}
 use mathlib.Core.List.{List, [], _∷_}
 use mathlib.Core.Logic.{⊎-elim}
-use Prim.Native.Nat.{ℕ, zero, suc, _+_, _-_, _≤_, _<_}
+use Prim.Native.Nat.{ℕ, zero, suc, _+_, _≤_, _<_}
 use native.Mathlib.Omega.{arith}
 use lib.ListN.{length, getD}
 use lib.Dec.{eqb}
 use borrow.Author.Tests.{eqb-true, eqb-false}
 use Rattle.graph.specs.Counting.{countOf, sumTo, Below}
 use Rattle.graph.specs.Arcs.{Leads, one, more, Circle, arcsInto}
-use Rattle.graph.specs.Order.{State, pushIf, freeAll, orderFrom, stackFree}
-use Rattle.graph.proofs.CountingLaws.{hit-eq, hit-ne, same?, sumTo-ap, sumTo-le, sumTo-short, sumTo-full, count-all, isZero, isZero-le, isZero-of, isZero-pos, pos-of, left, left-nil, left-none, left-some}
+use Rattle.graph.specs.Order.{pushIf, freeAll, orderFrom, stackFree, InTurn}
+use Rattle.graph.proofs.CountingLaws.{hit-eq, hit-ne, same?, sumTo-ap, sumTo-le, sumTo-short, sumTo-full, count-all, isZero, isZero-le, isZero-of, isZero-pos, pos-of, left-nil, left-none, left-some}
 use Rattle.graph.proofs.CircleLaws.{circle}
 use Rattle.graph.proofs.Invariant.{Inv, freeAll-inv, take-inv, top-new, room}
 
@@ -34,11 +34,6 @@ onto-count b (a ∷ o) d = omega (arith, onto-count b o (a ∷ d))
 -- p frees a
 abbrev pub Frees : ℕ → (ℕ → List ℕ) → ℕ → ℕ → Type 0
 Frees n succs p a = (p < n) × (0 < countOf a (succs p))
-
--- each of the list comes once, is not in d, and what it waits for stands before it or in d
-unfoldable pub Topo : ℕ → (ℕ → ℕ → Type 0) → List ℕ → List ℕ → Type 0
-Topo n R d [] = Unit {0}
-Topo n R d (a ∷ o) = (a < n) × (countOf a d ≡ 0) × ((p : ℕ) → R p a → 0 < countOf p d) × Topo n R (a ∷ d) o
 
 -- the first activities of all that wait for nothing
 pub stack-below : (n : ℕ) (counts : List ℕ) (m k : ℕ) (st : List ℕ) → k + m ≡ n → Below n st → Below n (stackFree counts m k st)
@@ -78,7 +73,7 @@ stack-count n counts (suc m) k st e lo hi b h =
 module _ (n : ℕ) (succs : ℕ → List ℕ) where
   -- what the order and the last counts are
   pub record Ordered (d o : List ℕ) : Type 0 where
-    pub topo : Topo n (Frees n succs) d o
+    pub turns : InTurn n (Frees n succs) d o
     pub counts : List ℕ
     pub last : Inv n succs (onto o d) counts [] []
 
@@ -97,14 +92,14 @@ module _ (n : ℕ) (succs : ℕ → List ℕ) where
 
   module _ (below : (a : ℕ) → a < n → Below n (succs a)) where
     pub ordered : (fuel : ℕ) (d counts stack : List ℕ) → length d + fuel ≡ n → Inv n succs d counts stack [] → Ordered d (orderFrom succs fuel counts stack)
-    unfolding orderFrom onto Topo Below
-    ordered zero d counts stack e v = record { topo = tt; counts = counts; last = subst (λ s. Inv n succs d counts s []) (empty d counts stack (omega arith) v) v }
-    ordered (suc fuel) d counts [] e v = record { topo = tt; counts = counts; last = v }
+    unfolding orderFrom onto InTurn Below
+    ordered zero d counts stack e v = record { turns = tt; counts = counts; last = subst (λ s. Inv n succs d counts s []) (empty d counts stack (omega arith) v) v }
+    ordered (suc fuel) d counts [] e v = record { turns = tt; counts = counts; last = v }
     ordered (suc fuel) d counts (a ∷ stack) e v =
         let s = freeAll (succs a) (record { counts = counts; stack = stack }) in
         let h = v .stacked .0 in
         let r = ordered fuel (a ∷ d) (s .counts) (s .stack) (omega arith) (freeAll-inv n succs (succs a) (a ∷ d) (record { counts = counts; stack = stack }) (below a h) (take-inv n succs a d counts stack v)) in
-        record { topo = (h, top-new n succs a d counts stack v, met a d counts stack v, r .topo); counts = r .counts; last = r .last }
+        record { turns = (h, top-new n succs a d counts stack v, met a d counts stack v, r .turns); counts = r .counts; last = r .last }
 
   -- counts that are right, and the stack of those at 0
   pub start-inv : (counts : List ℕ) → n ≤ length counts → ((b : ℕ) → b < n → getD counts b 0 ≡ arcsInto n succs b) → Inv n succs [] counts (stackFree counts n 0 []) []
@@ -136,6 +131,11 @@ module _ (n : ℕ) (succs : ℕ → List ℕ) where
         omega
         (arith, onto-count a o [], r .last .once a h, sumTo-full n (λ b. isZero (getD (r .counts) b 0)) (λ b. isZero-le (getD (r .counts) b 0)) (sym total ∙ e) a h)
 
+    -- each is there once at most
+    pub named-once : (a : ℕ) → a < n → countOf a o ≤ 1
+    unfolding countOf
+    named-once a h = omega (arith, onto-count a o [], r .last .once a h, isZero-le (getD (r .counts) a 0))
+
     -- one that was not taken waits for one that was not taken
     stuck : (a : ℕ) → a < n → 0 < getD (r .counts) a 0 → (p : ℕ) × (p < n) × (0 < getD (r .counts) p 0) × Frees n succs p a
     unfolding countOf
@@ -166,8 +166,8 @@ module _ (n : ℕ) (R : ℕ → ℕ → Type 0) where
   closed-more a d c h p b r k =
       ⊎-elim (λ e. omega (arith, h p (subst (λ y. R p y) (sym e) r))) (λ ne. omega (arith, c p b r (omega (arith, hit-ne a b ne)))) (same? a b)
 
-  no-circle-from : (o d : List ℕ) → Topo n R d o → Closed d → (a : ℕ) → 0 < countOf a o → Leads R a a → ⊥
-  unfolding Topo countOf
+  no-circle-from : (o d : List ℕ) → InTurn n R d o → Closed d → (a : ℕ) → 0 < countOf a o → Leads R a a → ⊥
+  unfolding InTurn countOf
   no-circle-from [] d t c a k l = omega arith
   no-circle-from (x ∷ o) d t c a k l =
       ⊎-elim
@@ -175,12 +175,17 @@ module _ (n : ℕ) (R : ℕ → ℕ → Type 0) where
       (λ ne. no-circle-from o (x ∷ d) (t .3) (closed-more x d c (t .2)) a (omega (arith, hit-ne x a ne)) l)
       (same? x a)
 
-  pub no-circle : (o : List ℕ) → Topo n R [] o → ((a : ℕ) → a < n → 0 < countOf a o) → Circle n R → ⊥
+  pub no-circle : (o : List ℕ) → InTurn n R [] o → ((a : ℕ) → a < n → 0 < countOf a o) → Circle n R → ⊥
   unfolding countOf
   no-circle o t all q = no-circle-from o [] t (λ p a r k. absurd (omega arith)) (q .0) (all (q .0) (q .1)) (q .2)
 
 -- all that an order names is below n
-pub topo-below : (n : ℕ) (R : ℕ → ℕ → Type 0) (d o : List ℕ) → Topo n R d o → Below n o
-unfolding Topo Below
-topo-below n R d [] t = tt
-topo-below n R d (a ∷ o) t = (t .0, topo-below n R (a ∷ d) o (t .3))
+pub turns-below : (n : ℕ) (R : ℕ → ℕ → Type 0) (d o : List ℕ) → InTurn n R d o → Below n o
+unfolding InTurn Below
+turns-below n R d [] t = tt
+turns-below n R d (a ∷ o) t = (t .0, turns-below n R (a ∷ d) o (t .3))
+
+pub turns-map : (n : ℕ) {R Q : ℕ → ℕ → Type 0} → ((p a : ℕ) → Q p a → R p a) → (d o : List ℕ) → InTurn n R d o → InTurn n Q d o
+unfolding InTurn
+turns-map n f d [] t = tt
+turns-map n f d (a ∷ o) t = (t .0, t .1, λ p q. t .2 p (f p a q), turns-map n f (a ∷ d) o (t .3))

@@ -7,8 +7,8 @@ use mathlib.Core.Logic.{_↔_}
 use Prim.Native.Nat.{ℕ, _+_, _≤_, _<_, max}
 use native.Mathlib.Nat.{le-of-eq, le-trans}
 use native.Mathlib.Omega.{arith}
-use lib.ListN.{length, getD}
-use Rattle.graph.specs.Counting.{countOf, Below}
+use lib.ListN.{length}
+use Rattle.graph.specs.Counting.{countOf}
 use Rattle.graph.specs.Arcs.{Graph, Waits, Circle}
 use Rattle.graph.specs.Starts.{Monotone, heldRule}
 use Rattle.graph.specs.Exact.{Counted, graphOrder, Exact}
@@ -18,7 +18,7 @@ use Rattle.graph.specs.declared.Link.{Link}
 use Rattle.graph.specs.declared.Link.the-variants.{To, Nothing}
 use Rattle.graph.proofs.CountingLaws.{countOf-append, hit-eq, hit-ne, either, below-append}
 use Rattle.graph.proofs.CircleLaws.{circle-map}
-use Rattle.graph.proofs.Theorem.{short-is-circle, circle-is-short, full-no-circle, order-and-starts-exact, held-mono}
+use Rattle.graph.proofs.Theorem.{short-is-circle, circle-is-short, order-and-starts-exact, held-mono}
 
 linked-is : (p : ℕ) (o : Link) → 0 < countOf p (linked o) → o ≡ To p
 unfolding countOf

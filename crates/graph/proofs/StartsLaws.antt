@@ -8,9 +8,10 @@ use native.Mathlib.Omega.{arith}
 use lib.ListN.{length, getD, length-set}
 use lib.Seq.{getD-set-same, getD-set-other}
 use Rattle.graph.specs.Counting.{countOf, hit}
+use Rattle.graph.specs.Order.{InTurn}
 use Rattle.graph.specs.Starts.{Rule, endsOf, place, timed, Meets}
 use Rattle.graph.proofs.CountingLaws.{hit-ne, same?}
-use Rattle.graph.proofs.OrderLaws.{Topo, Closed, closed-more}
+use Rattle.graph.proofs.OrderLaws.{Closed, closed-more}
 
 pub timed-append : (rule : Rule) (span : ℕ → ℕ) (o p s : List ℕ) → timed rule span (o ++ p) s ≡ timed rule span p (timed rule span o s)
 unfolding timed
@@ -44,18 +45,18 @@ module _ (n : ℕ) (R : ℕ → ℕ → Type 0) (rule : Rule) (span : ℕ → �
       old : (x ≡ a → ⊥) → 0 < countOf a d → getD (place rule span x s) a 0 ≡ rule a (endsOf span (place rule span x s))
       old ne m = getD-set-other s x a (rule x (endsOf span s)) 0 (λ e. ne (sym e)) ∙ w a t m ∙ sym (same-rule x a d s t z (λ p r. c p a r m))
 
-  timed-from : (o d s : List ℕ) → n ≤ length s → Topo n R d o → Closed n R d → Placed d s → (a : ℕ) → a < n → 0 < countOf a o + countOf a d
+  timed-from : (o d s : List ℕ) → n ≤ length s → InTurn n R d o → Closed n R d → Placed d s → (a : ℕ) → a < n → 0 < countOf a o + countOf a d
       → getD (timed rule span o s) a 0 ≡ rule a (endsOf span (timed rule span o s))
-  unfolding timed Topo countOf Placed
+  unfolding timed InTurn countOf Placed
   timed-from [] d s l t c w a h k = w a h (omega arith)
   timed-from (x ∷ o) d s l t c w a h k =
       timed-from o (x ∷ d) (place rule span x s) (rw length-set l) (t .3) (closed-more n R x d c (t .2))
       (placed-more x d s (t .0) (omega arith) (t .1) (t .2) c w) a h (omega arith)
 
   -- no starts that meet the rule are before
-  least-from : (o d s : List ℕ) → n ≤ length s → Topo n R d o → (S : ℕ → ℕ) → Meets n rule span S → ((a : ℕ) → 0 < countOf a d → getD s a 0 ≤ S a)
+  least-from : (o d s : List ℕ) → n ≤ length s → InTurn n R d o → (S : ℕ → ℕ) → Meets n rule span S → ((a : ℕ) → 0 < countOf a d → getD s a 0 ≤ S a)
       → (a : ℕ) → 0 < countOf a o + countOf a d → getD (timed rule span o s) a 0 ≤ S a
-  unfolding timed Topo countOf
+  unfolding timed InTurn countOf
   least-from [] d s l t S m w a k = w a (omega arith)
   least-from (x ∷ o) d s l t S m w a k =
       least-from o (x ∷ d) (place rule span x s) (rw length-set l) (t .3) S m more a (omega arith)
@@ -68,7 +69,7 @@ module _ (n : ℕ) (R : ℕ → ℕ → Type 0) (rule : Rule) (span : ℕ → �
           ⊎-elim (λ e. subst (λ y. getD (place rule span x s) y 0 ≤ S y) e (le-trans (le-of-eq (getD-set-same s x (rule x (endsOf span s)) 0 (omega arith))) here))
           (λ ne. le-trans (le-of-eq (getD-set-other s x b (rule x (endsOf span s)) 0 (λ e. ne (sym e)))) (w b (omega (arith, hit-ne x b ne)))) (same? x b)
 
-  module _ (o s : List ℕ) (l : n ≤ length s) (t : Topo n R [] o) (all : (a : ℕ) → a < n → 0 < countOf a o) where
+  module _ (o s : List ℕ) (l : n ≤ length s) (t : InTurn n R [] o) (all : (a : ℕ) → a < n → 0 < countOf a o) where
     -- each start is the earliest that the rule allows
     pub timed-meets : (a : ℕ) → a < n → getD (timed rule span o s) a 0 ≡ rule a (endsOf span (timed rule span o s))
     unfolding Placed countOf

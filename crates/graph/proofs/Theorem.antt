@@ -1,19 +1,18 @@
 -- Demand 3 over an abstract graph: what the order and the starts are to whoever has arcs and a rule, and no word of stacks. Assumes nothing.
-use mathlib.Core.Path.{_≡_, sym, ap, _∙_, subst}
-use mathlib.Core.List.{List, [], _∷_}
+use mathlib.Core.Path.{_≡_, _∙_}
+use mathlib.Core.List.{List, []}
 use mathlib.Core.Option.{Option, none, some}
-use Prim.Native.Nat.{ℕ, zero, suc, _+_, _≤_, _<_}
+use Prim.Native.Nat.{ℕ, _≤_, _<_}
 use native.Mathlib.Omega.{arith}
-use lib.ListN.{length, getD}
-use Rattle.graph.specs.Counting.{countOf, sumTo, Below}
+use lib.ListN.{length}
+use Rattle.graph.specs.Counting.{countOf, Below}
 use Rattle.graph.specs.Arcs.{Graph, Waits, Circle, arcsInto}
-use Rattle.graph.specs.Order.{State, free, freeAll, pushIf, orderFrom, orderOf, stackFree}
-use Rattle.graph.specs.Starts.{Rule, timed, Monotone, Meets, heldRule}
-use Rattle.graph.specs.Exact.{Counted, graphOrder, startOf, Exact}
+use Rattle.graph.specs.Order.{orderOf, stackFree, InTurn}
+use Rattle.graph.specs.Starts.{Rule, Monotone, heldRule}
+use Rattle.graph.specs.Exact.{Counted, graphOrder, Exact}
 use Rattle.graph.proofs.CountingLaws.{sumTo-ap, count-all, either, below-of}
 use Rattle.graph.proofs.CircleLaws.{circle-map}
-use Rattle.graph.proofs.Invariant.{Inv, freeAll-inv, take-inv}
-use Rattle.graph.proofs.OrderLaws.{Frees, Ordered, start-inv, ordered, all-there, short-circle, at-most, no-circle, topo-below}
+use Rattle.graph.proofs.OrderLaws.{Frees, Ordered, start-inv, ordered, all-there, short-circle, at-most, no-circle, turns-below, turns-map, named-once}
 use Rattle.graph.proofs.StartsLaws.{timed-meets, timed-least}
 
 -- an activity waits for as many arcs as lead into it
@@ -42,7 +41,14 @@ module _ (g : Graph) (counts : List ℕ) (counted : Counted g counts) where
   at-most-n = at-most (g .n) (g .succs) (graphOrder g counts) found
 
   pub order-below : Below (g .n) (graphOrder g counts)
-  order-below = topo-below (g .n) (Frees (g .n) (g .succs)) [] (graphOrder g counts) (found .topo)
+  order-below = turns-below (g .n) (Frees (g .n) (g .succs)) [] (graphOrder g counts) (found .turns)
+
+  -- each activity of the order comes once, after all that it waits for
+  pub order-in-turn : InTurn (g .n) (Waits g) [] (graphOrder g counts)
+  order-in-turn = turns-map (g .n) (waits-frees g) [] (graphOrder g counts) (found .turns)
+
+  pub order-once : (a : ℕ) → a < g .n → countOf a (graphOrder g counts) ≤ 1
+  order-once = named-once (g .n) (g .succs) (graphOrder g counts) found
 
   -- the order is short exactly when the arcs close a circle
   pub short-is-circle : length (graphOrder g counts) < g .n → Circle (g .n) (Waits g)
@@ -51,7 +57,7 @@ module _ (g : Graph) (counts : List ℕ) (counted : Counted g counts) where
   pub circle-is-short : Circle (g .n) (Waits g) → length (graphOrder g counts) < g .n
   circle-is-short c =
       either (length (graphOrder g counts)) (g .n)
-      (λ e. absurd (no-circle (g .n) (Frees (g .n) (g .succs)) (graphOrder g counts) (found .topo) (all-there (g .n) (g .succs) (graphOrder g counts) found e) (circle-map (waits-frees g) c)))
+      (λ e. absurd (no-circle (g .n) (Frees (g .n) (g .succs)) (graphOrder g counts) (found .turns) (all-there (g .n) (g .succs) (graphOrder g counts) found e) (circle-map (waits-frees g) c)))
       (λ ne. omega (arith, at-most-n))
 
   -- an order of all is one without a circle
@@ -71,9 +77,9 @@ module _ (g : Graph) (counts : List ℕ) (counted : Counted g counts) where
       record {
         contradicts = (short-is-circle, circle-is-short);
         meets = λ no.
-            timed-meets (g .n) (Frees (g .n) (g .succs)) rule span frees-mono (graphOrder g counts) old room (found .topo) (all-named (no-circle-full no));
+            timed-meets (g .n) (Frees (g .n) (g .succs)) rule span frees-mono (graphOrder g counts) old room (found .turns) (all-named (no-circle-full no));
         least = λ no.
-            timed-least (g .n) (Frees (g .n) (g .succs)) rule span frees-mono (graphOrder g counts) old room (found .topo) (all-named (no-circle-full no));
+            timed-least (g .n) (Frees (g .n) (g .succs)) rule span frees-mono (graphOrder g counts) old room (found .turns) (all-named (no-circle-full no));
       }
     where
       frees-mono : (a : ℕ) (f h : ℕ → ℕ) → a < g .n → ((p : ℕ) → Frees (g .n) (g .succs) p a → f p ≤ h p) → rule a f ≤ rule a h

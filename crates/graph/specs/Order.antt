@@ -1,10 +1,12 @@
 -- Document 01, "Timing and fitness", the timing order: activities waiting for nothing are stacked, lowest number first; the last stacked is
 -- taken first and frees those that wait for it, in their order. A definition that runs.
+use mathlib.Core.Path.{_≡_}
 use mathlib.Core.Bool.{Bool, true, false}
 use mathlib.Core.List.{List, [], _∷_}
-use Prim.Native.Nat.{ℕ, zero, suc, _-_}
+use Prim.Native.Nat.{ℕ, zero, suc, _-_, _<_}
 use lib.ListN.{getD, set}
 use lib.Dec.{eqb}
+use Rattle.graph.specs.Counting.{countOf}
 
 -- how many arcs each activity still waits for, and the stack, its top first
 pub record State : Type 0 where
@@ -41,3 +43,8 @@ stackFree counts (suc m) k st = stackFree counts m (suc k) (pushIf (eqb (getD co
 unfoldable pub orderOf : (succs : ℕ → List ℕ) → ℕ → List ℕ → List ℕ
 unfolding orderFrom stackFree
 orderOf succs n counts = orderFrom succs n counts (stackFree counts n 0 [])
+
+-- each of a list comes once and is none of d, and what it waits for stands before it or in d
+unfoldable pub InTurn : ℕ → (ℕ → ℕ → Type 0) → List ℕ → List ℕ → Type 0
+InTurn n R d [] = Unit {0}
+InTurn n R d (a ∷ o) = (a < n) × (countOf a d ≡ 0) × ((p : ℕ) → R p a → 0 < countOf p d) × InTurn n R (a ∷ d) o

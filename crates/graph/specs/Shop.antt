@@ -11,7 +11,7 @@ use Rattle.graph.specs.Order.{orderOf}
 use Rattle.graph.specs.Starts.{Rule, timed}
 use Rattle.graph.specs.Links.{linked}
 use Rattle.graph.specs.declared.Link.{Link}
-use Rattle.graph.specs.declared.Link.the-variants.{To, Nothing}
+use Rattle.graph.specs.declared.Link.the-variants.{To}
 
 -- the greatest of m and of f at each of ps
 unfoldable pub greatest : (ℕ → ℕ) → List ℕ → ℕ → ℕ
