@@ -118,6 +118,11 @@ below-at n [] i h k = absurd (omega arith)
 below-at n (x ∷ xs) zero h k = h .0
 below-at n (x ∷ xs) (suc i) h k = below-at n xs i (h .1) (omega arith)
 
+pub below-more : (n m : ℕ) (l : List ℕ) → n ≤ m → Below n l → Below m l
+unfolding Below
+below-more n m [] h b = tt
+below-more n m (x ∷ l) h b = (omega (arith, b .0), below-more n m l h (b .1))
+
 pub below-append : (n : ℕ) (xs ys : List ℕ) → Below n xs → Below n ys → Below n (xs ++ ys)
 unfolding Below
 below-append n [] ys h k = k

@@ -9,14 +9,15 @@ use native.Mathlib.Omega.{arith}
 use lib.ListN.{length, getD, take}
 use lib.Seq.{take-all, length-take-le}
 use lib.Dec.{eqb}
-use Rattle.graph.specs.Counting.{countOf, Below}
-use Rattle.graph.specs.Arcs.{Graph, Waits, Circle}
+use Rattle.graph.specs.Counting.{countOf, sumTo, Below}
+use Rattle.graph.specs.Arcs.{Graph, Waits, Circle, arcsInto}
 use Rattle.graph.specs.Order.{State, free, freeAll, pushIf, orderFrom, stackFree, orderOf}
 use Rattle.graph.specs.Exact.{Counted, graphOrder}
 use Rattle.graph.specs.Links.{linked, linkOf, partOf, succsOf, Shaped, Linked}
-use Rattle.graph.specs.Filing.{Filed}
+use Rattle.graph.specs.Filing.{naming, Filed, Counts}
 use Rattle.graph.specs.Shop.{Shop, ins}
-use Rattle.graph.proofs.CountingLaws.{sumTo-ap}
+use Rattle.graph.proofs.CountingLaws.{countOf-append, sumTo-ap, sumTo-add, count-all}
+use Rattle.graph.proofs.NamingLaws.{naming-below, naming-dual, naming-length}
 use Rattle.graph.proofs.OrderLaws.{stack-below}
 use Rattle.graph.proofs.Theorem.{waits-for, short-is-circle, circle-is-short}
 use Rattle.graph.proofs.ShopTheorem.{graph}
@@ -95,6 +96,54 @@ module _ {g : Graph} {line task at waiting counts : List ℕ} (h : Holds g line 
     -- where it is not short, the array is the order
     pub answer-order : length order ≤ r → order ≡ graphOrder g counts
     answer-order k = sym (take-all r order k) ∙ e ∙ holds-order
+
+-- ---- links and pairs, as counted and filed, are all that `order_of` requires
+
+pub filed-linked : (n : ℕ) {line task acts preds at waiting counts : List ℕ} → Shaped n line task at waiting → length preds ≡ length acts → Below n acts → Below n preds
+    → Filed acts preds at waiting → length counts ≡ n → Counts line task acts counts → Linked n line task at waiting counts
+filed-linked n {line} {task} {acts} {preds} {at} {waiting} {counts} s even ha hp f sized c =
+    record {
+      shaped = s;
+      known = λ a h. subst (Below n) (sym (f .parts a (omega (arith, s .bounded)))) (naming-below n a acts preds ha);
+      counted = sized;
+      right = λ b h. c .right b ∙ sym (total b);
+    }
+  where
+    by-line : ℕ → ℕ → ℕ
+    by-line b a = countOf b (linked (linkOf line a))
+
+    by-task : ℕ → ℕ → ℕ
+    by-task b a = countOf b (linked (linkOf task a))
+
+    by-name : ℕ → ℕ → ℕ
+    by-name b a = countOf b (naming a acts preds)
+
+    one : (b a : ℕ) → a < n → countOf b (succsOf line task at waiting a) ≡ by-line b a + (by-task b a + by-name b a)
+    one b a h =
+        omega (
+          arith,
+          countOf-append b (linked (linkOf line a)) (linked (linkOf task a) ++ partOf at waiting a),
+          countOf-append b (linked (linkOf task a)) (partOf at waiting a),
+          ap (countOf b) (f .parts a (omega (arith, s .bounded))),
+        )
+
+    namings : (b : ℕ) → sumTo n (by-name b) ≡ countOf b acts
+    namings b =
+        sumTo-ap n (by-name b) (λ a. countOf a (naming b preds acts)) (λ a h. naming-dual a b acts preds)
+        ∙ count-all n (naming b preds acts) (naming-below n b preds acts hp) ∙ naming-length b preds acts even
+
+    total : (b : ℕ) → arcsInto n (succsOf line task at waiting) b
+        ≡ arcsInto (length line) (λ a. linked (linkOf line a)) b + (arcsInto (length task) (λ a. linked (linkOf task a)) b + countOf b acts)
+    total b =
+        sumTo-ap n (λ a. countOf b (succsOf line task at waiting a)) (λ a. by-line b a + (by-task b a + by-name b a)) (one b)
+        ∙ omega (
+          arith,
+          sumTo-add n (by-line b) (λ a. by-task b a + by-name b a),
+          sumTo-add n (by-task b) (by-name b),
+          namings b,
+          ap (λ k. sumTo k (by-line b)) (s .lined),
+          ap (λ k. sumTo k (by-task b)) (s .tasked),
+        )
 
 -- ---- arrays that hold a shop, with those that name each as they were filed
 

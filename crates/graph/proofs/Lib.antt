@@ -13,4 +13,5 @@ pub mod LinkedLaws
 pub mod Holding
 pub mod Worked
 pub mod NamingLaws
+pub mod TallyLaws
 pub mod FilingLaws

@@ -1,9 +1,12 @@
 // Whom an activity frees, the timing order by a stack, and the filing of those that name each.
+mod counting;
 mod filing;
 
-pub use filing::clear;
+pub use counting::clear;
+pub use counting::count_arcs;
+pub use counting::tally_by;
+pub use counting::tally_links;
 pub use filing::file_naming;
-pub use filing::tally_by;
 ghost use mathlib.Core.Path.{_≡_};
 ghost use mathlib.Core.List.{[]};
 ghost use Prim.Native.Nat.{ℕ, _+_, _-_, _<_, _≤_};
