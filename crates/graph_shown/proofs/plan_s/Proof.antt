@@ -1,12 +1,14 @@
--- `graph_shown::plan_s` meets what `order_of` asks. Assumes nothing.
+-- `graph_shown::plan_s` shows a plan of four activities. Assumes nothing.
 use borrow.Author.Needs.{needs}
+use mathlib.Core.Path.{refl}
 use native.Mathlib.Omega.{arith}
-use Rattle.graph_shown.proofs.Plans.{plan-s-linked}
+use Rattle.graph.specs.Counting.{Below}
 use Rattle.graph_shown.proofs.plan_s.Statement.{statement}
 use Rattle.graph_shown.proofs.plan_s.Tie as tie
 
-order-of-requires : tie.Need-order-of-requires
-order-of-requires c κs = (plan-s-linked, omega arith)
+show-requires : tie.Need-show-requires
+unfolding Below
+show-requires c κs = record { lined = refl; tasked = refl; even = refl; few = omega arith; known = tt; named = tt }
 
 pub plan-s-spec : {M : Type 1} → statement M
 plan-s-spec =
@@ -18,8 +20,5 @@ plan-s-spec =
     (λ c. search needs)
     (λ c. search needs)
     (λ c. search needs)
-    (λ c. search needs)
-    order-of-requires
-    (λ c. search needs)
-    (λ c κs. search needs)
+    show-requires
     (λ c. search needs))
