@@ -14,13 +14,14 @@ use Rattle.graph.specs.Arcs.{Graph, Waits, Circle, arcsInto}
 use Rattle.graph.specs.Order.{State, free, freeAll, pushIf, orderFrom, stackFree, orderOf}
 use Rattle.graph.specs.Exact.{Counted, graphOrder}
 use Rattle.graph.specs.Links.{linked, linkOf, partOf, succsOf, Shaped, Linked}
-use Rattle.graph.specs.Filing.{naming, Filed, Counts}
-use Rattle.graph.specs.Shop.{Shop, ins}
+use Rattle.graph.specs.Tally.{Counts}
+use Rattle.graph.specs.Filing.{naming, Filed}
+use Rattle.graph.specs.Shop.{Shop, Arc}
 use Rattle.graph.proofs.CountingLaws.{countOf-append, sumTo-ap, sumTo-add, count-all}
 use Rattle.graph.proofs.NamingLaws.{naming-below, naming-dual, naming-length}
 use Rattle.graph.proofs.OrderLaws.{stack-below}
 use Rattle.graph.proofs.Theorem.{waits-for, short-is-circle, circle-is-short}
-use Rattle.graph.proofs.ShopTheorem.{graph}
+use Rattle.graph.proofs.ShopTheorem.{graph, contradicts}
 
 -- the arrays have a shape, free whom the graph frees in the same order, and count for whom it waits
 pub record Holds (g : Graph) (line task at waiting counts : List ℕ) : Type 0 where
@@ -62,6 +63,19 @@ module _ (n : ℕ) (f g : ℕ → List ℕ) (same : (a : ℕ) → a < n → f a 
   order-agrees counts = from-agrees n counts (stackFree counts n 0 []) (stack-below n counts n 0 [] (omega arith) tt)
 
 -- ---- what `order_of` requires, and what its answer says
+
+-- what meets `order_of` holds any graph that frees the same, so that no caller counts twice
+pub linked-holds : (g : Graph) {line task at waiting counts : List ℕ} → Linked (g .n) line task at waiting counts
+    → ((a : ℕ) → a < g .n → succsOf line task at waiting a ≡ g .succs a) → Holds g line task at waiting counts
+linked-holds g {line} {task} {at} {waiting} l frees =
+    record {
+      shaped = l .shaped;
+      frees = frees;
+      sized = l .counted;
+      right = λ b k.
+          l .right b k ∙ sumTo-ap (g .n) (λ a. countOf b (succsOf line task at waiting a)) (λ a. countOf b (g .succs a)) (λ a h. ap (countOf b) (frees a h))
+          ∙ sym (waits-for g b k);
+    }
 
 module _ {g : Graph} {line task at waiting counts : List ℕ} (h : Holds g line task at waiting counts) where
   pub holds-counted : Counted g counts
@@ -152,14 +166,15 @@ pub filed-shaped : (n : ℕ) {line task acts preds at waiting : List ℕ} → le
 filed-shaped n by-line by-task long f =
     record { lined = by-line; tasked = by-task; bounded = long; rising = λ a h. f .rising a (omega arith); within = f .within n long }
 
-pub shop-holds : (s : Shop) {line task at waiting counts : List ℕ} → Shaped (s .n) line task at waiting
-    → ((a : ℕ) → a < s .n → linkOf line a ≡ s .lineSucc a) → ((a : ℕ) → a < s .n → linkOf task a ≡ s .taskSucc a)
-    → ((a : ℕ) → a < s .n → partOf at waiting a ≡ s .waiting a) → length counts ≡ s .n
-    → ((b : ℕ) → b < s .n → getD counts b 0 ≡ length (ins s b)) → Holds (graph s) line task at waiting counts
-shop-holds s shaped by-line by-task by-name sized right =
-    record {
-      shaped = shaped;
-      frees = λ a k. ap₂ _++_ (ap linked (by-line a k)) (ap₂ _++_ (ap linked (by-task a k)) (by-name a k));
-      sized = sized;
-      right = right;
-    }
+module _ (s : Shop) {line task at waiting counts : List ℕ} (l : Linked (s .n) line task at waiting counts)
+    (by-line : (a : ℕ) → a < s .n → linkOf line a ≡ s .lineSucc a) (by-task : (a : ℕ) → a < s .n → linkOf task a ≡ s .taskSucc a)
+    (by-name : (a : ℕ) → a < s .n → partOf at waiting a ≡ s .waiting a) where
+  pub shop-holds : Holds (graph s) line task at waiting counts
+  shop-holds = linked-holds (graph s) l (λ a k. ap₂ _++_ (ap linked (by-line a k)) (ap₂ _++_ (ap linked (by-task a k)) (by-name a k)))
+
+  -- demand 3 of the answer: it is short exactly when the shop's arcs lead from some activity back to itself
+  pub shop-answer : (r : ℕ) (order : List ℕ) → take r order ≡ orderOf (succsOf line task at waiting) (s .n) counts → r ≤ length order → (r < s .n) ↔ Circle (s .n) (Arc s)
+  shop-answer r order e fits =
+      let c = contradicts s counts (holds-counted shop-holds) in
+      let k = answer-length shop-holds r order e fits in
+      (λ h. c .0 (omega arith), λ q. let h = c .1 q in omega arith)

@@ -6,4 +6,5 @@ pub mod Exact
 pub mod Links
 pub mod Shop
 pub mod Run
+pub mod Tally
 pub mod Filing
