@@ -1,0 +1,3 @@
+pub mod ProductLaws
+pub mod TableLaws
+pub mod EntryLaws

@@ -1,0 +1,17 @@
+pub mod CountingLaws
+pub mod CircleLaws
+pub mod Invariant
+pub mod OrderLaws
+pub mod StartsLaws
+pub mod Theorem
+pub mod ShopTheorem
+pub mod StackLaws
+pub mod FreeingLaws
+pub mod Stacking
+pub mod Taking
+pub mod LinkedLaws
+pub mod Holding
+pub mod Worked
+pub mod NamingLaws
+pub mod TallyLaws
+pub mod FilingLaws

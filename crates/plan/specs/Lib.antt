@@ -1,0 +1,5 @@
+pub mod Problem
+pub mod Input
+pub mod Found
+pub mod Accepted
+pub mod Laid

@@ -1,0 +1,4 @@
+pub mod TextLaws
+pub mod WordLaws
+pub mod SignedLaws
+pub mod DigitLaws
