@@ -9,6 +9,7 @@ pub mod answers;
 pub mod check;
 pub mod damage;
 pub mod generate;
+pub mod intake;
 pub mod judge;
 pub mod lines;
 pub mod modes;

@@ -7,10 +7,10 @@ use std::process::ExitCode;
 
 use compare::generate::{self, Class};
 use compare::modes::{answer, Mode};
-use compare::{check, damage, lines, store, text};
+use compare::{check, damage, intake, lines, store, text};
 
 /// Every way to call the tools; the first one stands for all modes.
-const USAGES: [&str; 9] = [
+const USAGES: [&str; 10] = [
     "MODE [INPUT [LINES]]",
     "to-text [INPUT]",
     "from-text [TEXT]",
@@ -18,6 +18,7 @@ const USAGES: [&str; 9] = [
     "damage SEED [INPUT]",
     "classes",
     "check [N]",
+    "intake-check PROGRAM [N]",
     "store [FOLDER]",
     "answers-check [FOLDER]",
 ];
@@ -27,6 +28,9 @@ const LONGEST_FILE: u64 = 16 << 20;
 
 /// How many inputs `check` runs unless it is told.
 const INPUTS: u64 = 10_000;
+
+/// How many inputs `intake-check` runs unless it is told.
+const INTAKES: u64 = 100_000;
 
 /// What goes to standard output, and whether a check found a difference.
 struct Said {
@@ -86,6 +90,10 @@ fn dispatch(arguments: &[OsString]) -> Result<Said, String> {
         ["classes"] => Ok(Class::ALL.map(|class| format!("{}\n", class.name())).concat().into()),
         ["check"] => Ok(check::check(INPUTS)?.into()),
         ["check", inputs] => Ok(check::check(number(inputs, "a number of inputs")?)?.into()),
+        ["intake-check", _] => Ok(intake::check(file(1).as_ref(), INTAKES)?.into()),
+        ["intake-check", _, inputs] => {
+            Ok(intake::check(file(1).as_ref(), number(inputs, "a number of inputs")?)?.into())
+        }
         ["store"] => Ok(store::store(store::FOLDER.as_ref())?.into()),
         ["store", _] => Ok(store::store(file(1).as_ref())?.into()),
         ["answers-check"] => Ok(store::check(store::FOLDER.as_ref())?.into()),
