@@ -1,0 +1,5 @@
+pub mod LatestLaws
+pub mod TaskLaws
+pub mod WeightLaws
+pub mod NoNan
+pub mod Worked

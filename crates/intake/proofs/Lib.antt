@@ -1,0 +1,4 @@
+pub mod CopyLaws
+pub mod BareShop
+pub mod CircleTables
+pub mod TakingLaws

@@ -1,0 +1,8 @@
+pub mod EntriesLaws
+pub mod FillLaws
+pub mod ColumnLaws
+pub mod TaskLaws
+pub mod ChangeLaws
+pub mod RegionLaws
+pub mod PartLaws
+pub mod TableLaws
