@@ -1,3 +1,4 @@
 pub mod ArrivalLaws
 pub mod LateLaws
+pub mod SetupLaws
 pub mod Worked

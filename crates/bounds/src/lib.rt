@@ -7,15 +7,53 @@ ghost use Rattle.words.specs.Words.{words};
 ghost use Rattle.words.specs.Signed.{signedWord};
 ghost use Rattle.graph.specs.Links.{linked};
 ghost use Rattle.graph.specs.Counting.{Below};
+ghost use Rattle.plan.specs.Problem.{Problem};
 ghost use Rattle.plan.specs.Input.{problemOf, genesOf};
 ghost use Rattle.plan.specs.Found.{Placed};
 ghost use Rattle.plan.specs.Accepted.{Accepted};
+ghost use Rattle.tables.specs.Regions.{cells};
 ghost use Rattle.tables.specs.Tabled.{Tabled};
-ghost use Rattle.bounds.specs.Bounds.{setupOf, spanOf, arrivalOf, tardinessOf};
+ghost use Rattle.bounds.specs.Bounds.{categoryBefore, setupOf, spanOf, arrivalOf, tardinessOf};
 ghost use Rattle.bounds.specs.Due.{deadlineIn};
 use graph::Link;
 use plan::Due;
 use plan::Layout;
+use tables::Change;
+
+// The category of the task of the activity that ran before; 8 where nothing did.
+fn category_before(table: &[usize], before: Link) -> usize
+    requires { ⌜ Below 128 (linked before) × (length (now table) ≡ cells) ⌝ }
+    ensures { λ r. ⌜ ((p : Problem) → Tabled p (now (table .entry)) → Below (p .n) (linked before) → r ≡ categoryBefore p before) ⌝ }
+{
+    let Link::To(b) = before else {
+        return 8;
+    };
+    tables::category_of(table, b)
+}
+
+// The setup of an activity on a machine after another: what Setups says of the change, else its own.
+pub fn setup_of(s: &[u8], z: Layout, table: &[usize], a: usize, m: usize, before: Link) -> u64
+    requires { ⌜ Placed z × Accepted (problemOf (words (now s)) z) (genesOf (words (now s)) z) × Tabled (problemOf (words (now s)) z) (now table) ⌝ }
+    requires { ⌜ (a < z .activities) × (m < z .machines) × Below (z .activities) (linked before) ⌝ }
+    ensures { λ r. ⌜ r ≡ setupOf (problemOf (words (now (s .entry))) z) a m before ⌝ }
+{
+    let own = tables::category_of(table, a);
+    let previous = category_before(table, before);
+    let change = tables::change_of(table, m, previous, own);
+    let Change::To(setup) = change else {
+        let t = plan::times_on(s, z, a, m);
+        return t.setup as u64;
+    };
+    setup
+}
+
+// Before when an activity may not start: the greater of its task's release and its own.
+pub fn release_of(table: &[usize], a: usize) -> u64
+    requires { ⌜ (a < 128) × (length (now table) ≡ cells) ⌝ }
+    ensures { λ r. ⌜ ((p : Problem) → Tabled p (now (table .entry)) → a < p .n → r ≡ p .release a) ⌝ }
+{
+    tables::release(table, a) as u64
+}
 
 // Setup, process and teardown of an activity on a machine, after the setup given.
 pub fn span(s: &[u8], z: Layout, a: usize, m: usize, setup: u64) -> u64

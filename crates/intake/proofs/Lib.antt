@@ -1,4 +1,3 @@
-pub mod CopyLaws
 pub mod BareShop
 pub mod CircleTables
 pub mod TakingLaws

@@ -14,18 +14,6 @@ use plan::Layout;
 use reader::Answer;
 use reader::Reading;
 
-// Copies as many cells as there are.
-fn copy(from: &[usize], to: &mut [usize])
-    requires { ⌜ length (now to) ≡ length (now from) ⌝ }
-    ensures { λ _. ⌜ now (to .exit) ≡ now (from .entry) ⌝ }
-{
-    let mut i = 0;
-    while i < from.len() {
-        to[i] = from[i];
-        i += 1;
-    }
-}
-
 // Whether the order over the tables, with no lines, leaves an activity out. The lent parts are as long as there are activities; those of
 // the counts and the order are work space.
 fn leaves_out(
@@ -44,7 +32,7 @@ fn leaves_out(
     let n = z.activities;
     let waits = tables::WAITS;
     let waits_end = waits + n;
-    copy(&table[waits..waits_end], counts);
+    tables::copy(&table[waits..waits_end], counts);
     let nexts = tables::NEXTS;
     let nexts_end = nexts + n;
     let at = tables::WAITING_AT;

@@ -6,13 +6,13 @@ mod namings;
 mod owners;
 
 use crate::changes::fill_changes;
-use crate::lists::copy;
 use crate::namings::fill_candidates;
 use crate::namings::fill_namings;
 use crate::owners::fill_categories;
 use crate::owners::fill_nexts;
 use crate::owners::fill_owners;
 use crate::owners::fill_releases;
+pub use lists::copy;
 pub use lookups::before_of;
 pub use lookups::category_of;
 pub use lookups::change_of;
@@ -69,10 +69,6 @@ pub const CANDIDATES: usize = 1539;
 pub const CHANGES: usize = 3587;
 
 pub const CELLS: usize = 4739;
-
-pub fn cells() -> usize {
-    CELLS
-}
 
 // Fills owners, next steps, releases and categories.
 fn fill_activities(s: &[u8], z: Layout, owners: &[usize], part: &mut [usize])
