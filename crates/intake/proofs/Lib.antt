@@ -1,3 +1,4 @@
 pub mod BareShop
 pub mod CircleTables
 pub mod TakingLaws
+pub mod Soundness
