@@ -1,0 +1,3 @@
+pub mod LinesShop
+pub mod Demand3
+pub mod NamedLaws
