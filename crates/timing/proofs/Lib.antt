@@ -1,3 +1,4 @@
 pub mod LinesShop
 pub mod Demand3
 pub mod NamedLaws
+pub mod Worked
