@@ -22,32 +22,32 @@ use Rattle.intake.specs.Circle.{each, closesCircle}
 use Rattle.intake.proofs.BareShop.{bare, waits-ins, each-at, length-each, next-within}
 
 -- A cell of a part of a region.
-part-cell : (table : List ℕ) (base size n a : ℕ) → a < n → n ≤ size → getD (take n (drop base table)) a 0 ≡ getD (take size (drop base table)) a 0
+pub part-cell : (table : List ℕ) (base size n a : ℕ) → a < n → n ≤ size → getD (take n (drop base table)) a 0 ≡ getD (take size (drop base table)) a 0
 part-cell table base size n a h g = getD-take n (drop base table) a 0 h ∙ sym (getD-take size (drop base table) a 0 (omega arith))
 
-part-long : (table : List ℕ) (base n : ℕ) → base + n ≤ length table → length (take n (drop base table)) ≡ n
+pub part-long : (table : List ℕ) (base n : ℕ) → base + n ≤ length table → length (take n (drop base table)) ≡ n
 part-long table base n h = length-take-le n (drop base table) (omega (arith, length-drop base table))
 
 module _ (p : Problem) (g : Genes) (ok : Accepted p g) {table : List ℕ} (t : Tabled p table) where
   abbrev none : List ℕ
   none = take (p .n) (replicate 128 (p .n))
 
-  abbrev nexts : List ℕ
+  abbrev pub nexts : List ℕ
   nexts = take (p .n) (drop 128 table)
 
-  abbrev waits : List ℕ
+  abbrev pub waits : List ℕ
   waits = take (p .n) (drop 512 table)
 
-  few : p .n ≤ 128
+  pub few : p .n ≤ 128
   few = ok .activities .1
 
   length-none : length none ≡ p .n
   length-none = length-take-le (p .n) (replicate 128 (p .n)) (omega (arith, few, length-replicate 128 (p .n)))
 
-  length-nexts : length nexts ≡ p .n
+  pub length-nexts : length nexts ≡ p .n
   length-nexts = part-long table 128 (p .n) (omega (arith, few, t .sized))
 
-  length-waits : length waits ≡ p .n
+  pub length-waits : length waits ≡ p .n
   length-waits = part-long table 512 (p .n) (omega (arith, few, t .sized))
 
   -- no line links, and the task links
@@ -56,7 +56,7 @@ module _ (p : Problem) (g : Genes) (ok : Accepted p g) {table : List ℕ} (t : T
       let e : getD none a 0 ≡ p .n = getD-take (p .n) (replicate 128 (p .n)) a 0 h ∙ getD-replicate 128 a (p .n) 0 (omega (arith, few)) in
       rw (e, length-none, le-ltb (p .n) (p .n) (omega arith))
 
-  by-task : (a : ℕ) → a < p .n → linkOf nexts a ≡ taskSucc p a
+  pub by-task : (a : ℕ) → a < p .n → linkOf nexts a ≡ taskSucc p a
   by-task a h =
       let e : getD nexts a 0 ≡ nextOf p a = part-cell table 128 128 (p .n) a h few ∙ t .followed a h in
       rw (e, length-nexts) (go (isNext p a) refl)

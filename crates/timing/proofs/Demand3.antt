@@ -30,7 +30,7 @@ module _ (p : Problem) (g : Genes) (ok : Accepted p g) {R : ℕ} (lines : Lines)
       record {
         circle = (
           λ e. circle-map (arc-binds p g ok lines w) (exact .contradicts .0 (ltb-true (length (timingOrder p lines)) (p .n) e)),
-          λ c. lt-ltb (length (timingOrder p lines)) (p .n) (exact .contradicts .1 (circle-map (binds-arc p g ok lines w) c))
+          λ c. lt-ltb (length (timingOrder p lines)) (p .n) (exact .contradicts .1 (circle-map (binds-arc p g ok lines w) c)),
         );
         meets = λ e. bounds-meeting p g ok lines w _ (exact .meets (acyclic e));
         least = λ e S m a h. exact .least (acyclic e) S (meeting-bounds p g ok lines w S m) a h;

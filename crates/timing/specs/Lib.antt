@@ -1,2 +1,3 @@
 pub mod Timing
 pub mod Exactly
+pub mod Ordering

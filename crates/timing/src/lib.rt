@@ -1,9 +1,19 @@
 // The timing order and the starts of a problem's lines.
 ghost use mathlib.Core.Path.{_≡_};
-ghost use Prim.Native.Nat.{ℕ, _<_};
-ghost use lib.ListN.{length, getD};
+ghost use Prim.Native.Nat.{ℕ, _^_, _≤_, _<_};
+ghost use lib.ListN.{length, getD, take};
+ghost use Rattle.words.specs.Words.{words};
 ghost use Rattle.graph.specs.Counting.{Below};
+ghost use Rattle.graph.specs.Links.{linked, linkOf};
 ghost use Rattle.graph.specs.Shop.{greatest};
+ghost use Rattle.plan.specs.Input.{problemOf, genesOf};
+ghost use Rattle.plan.specs.Accepted.{Accepted};
+ghost use Rattle.tables.specs.Tabled.{Tabled};
+ghost use Rattle.lines.specs.Lines.{linesIn, WellFormed};
+ghost use Rattle.timing.specs.Timing.{timingOrder};
+ghost use Rattle.timing.specs.Ordering.{withLine, Neighbours, Space};
+use graph::Link;
+use plan::Layout;
 
 // The latest of a moment and of the ends of all that are named.
 pub fn after_named(named: &[usize], ends: &[u64], first: u64) -> u64
@@ -20,4 +30,67 @@ pub fn after_named(named: &[usize], ends: &[u64], first: u64) -> u64
         }
     }
     latest
+}
+
+// How many each activity waits for: what it waits for without its line, and one more where another stands before it there.
+fn add_line_waits(waits: &[usize], before: &[usize], counts: &mut [usize])
+    requires { ⌜ (length (now before) ≡ length (now waits)) × (length (now counts) ≡ length (now waits)) × ((a : ℕ) → a < length (now waits) → getD (now waits) a 0 < 2 ^ 32) ⌝ }
+    ensures { λ _. ⌜ now (counts .exit) ≡ withLine (now (waits .entry)) (now (before .entry)) (length (now (waits .entry))) ⌝ }
+{
+    let mut a = 0;
+    while a < waits.len() {
+        let more = line_waits(before, a);
+        counts[a] = waits[a] + more;
+        a += 1;
+    }
+}
+
+// 1 where another stands before the activity on its line, else 0.
+fn line_waits(before: &[usize], a: usize) -> usize
+    requires { ⌜ a < length (now before) ⌝ }
+    ensures { λ r. ⌜ r ≡ length (linked (linkOf (now (before .entry)) a)) ⌝ }
+{
+    let Link::To(_) = graph::link_of(before, a) else {
+        return 0;
+    };
+    1
+}
+
+// Writes the timing order of the lines and answers how many activities it names: fewer than there are where the lines contradict.
+// `before` and `after` link each activity to its neighbours on its line; counts, stack and order are work space.
+pub fn order_lines(
+    s: &[u8],
+    z: Layout,
+    table: &[usize],
+    cells: &[usize],
+    lens: [usize; 16],
+    before: &[usize],
+    after: &[usize],
+    counts: &mut [usize],
+    stack: &mut [usize],
+    order: &mut [usize],
+) -> usize
+    requires { ⌜ Tabled (problemOf (words (now s)) z) (now table) × Accepted (problemOf (words (now s)) z) (genesOf (words (now s)) z) × WellFormed (z .activities) (z .machines) (linesIn (now cells) lens) ⌝ }
+    requires { ⌜ Neighbours (z .activities) (linesIn (now cells) lens) (now before) (now after) × Space (z .activities) (now counts) (now stack) (now order) ⌝ }
+    ensures { λ r. ⌜ (take r (now (order .exit)) ≡ timingOrder (problemOf (words (now (s .entry))) z) (linesIn (now (cells .entry)) lens)) × (r ≤ z .activities) ⌝ }
+{
+    let n = z.activities;
+    let waits = tables::WAITS;
+    let waits_end = waits + n;
+    add_line_waits(&table[waits..waits_end], before, counts);
+    let nexts = tables::NEXTS;
+    let nexts_end = nexts + n;
+    let at = tables::WAITING_AT;
+    let at_end = at + 129;
+    let waiting = tables::WAITING;
+    let waiting_end = waiting + 256;
+    graph::order_of(
+        after,
+        &table[nexts..nexts_end],
+        &table[at..at_end],
+        &table[waiting..waiting_end],
+        counts,
+        stack,
+        order,
+    )
 }

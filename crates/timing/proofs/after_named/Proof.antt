@@ -25,12 +25,12 @@ after-named-spec =
     (λ c. omega arith)
     (λ c. omega arith)
     (λ c.
-      let b = c .before .before .before in
-      let h = below-at (length (now (b .args .ends))) (now (b .args .named)) (c .before .before .loop .i) (b .pre) (c .before .loop-test .taken) in
-      omega arith)
+    let b = c .before .before .before in
+    let h = below-at (length (now (b .args .ends))) (now (b .args .named)) (c .before .before .loop .i) (b .pre) (c .before .loop-test .taken) in
+    omega arith)
     (λ c.
-      let b = c .before .before .before .before in
-      below-at (length (now (b .args .ends))) (now (b .args .named)) (c .before .before .before .loop .i) (b .pre) (c .before .before .loop-test .taken))
+    let b = c .before .before .before .before in
+    below-at (length (now (b .args .ends))) (now (b .args .named)) (c .before .before .before .loop .i) (b .pre) (c .before .before .loop-test .taken))
     (λ c. omega arith)
     (λ c. omega arith)
     (λ c. later (c .before .before .before .before .loop .inv) (c .before .before .before .loop-test .taken) (c .if1 .taken))
