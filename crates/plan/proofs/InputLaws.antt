@@ -11,7 +11,8 @@ use lib.ListN.{length, getD}
 use Rattle.graph.specs.Counting.{countOf, Below}
 use Rattle.graph.proofs.CountingLaws.{hit-eq, hit-ne, either}
 use Rattle.grammar.specs.Rules.{totalFrom}
-use Rattle.plan.specs.Input.{someIf, consIf, seconds, firsts, changeFrom, wordsFrom, owner}
+use Rattle.graph.specs.Filing.{consIf}
+use Rattle.plan.specs.Input.{someIf, seconds, firsts, changeFrom, wordsFrom, owner}
 
 -- ---- what stands where a test holds
 

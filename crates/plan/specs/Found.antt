@@ -75,14 +75,14 @@ abbrev pub timesOf : Problem → (activity machine : ℕ) → Times
 timesOf p a m = record { setup = p .setup a m; process = p .process a m; teardown = p .teardown a m }
 
 -- Sixteen cells: f at each of the first k, zeros after them.
-unfoldable pub cells : (ℕ → ℕ) → ℕ → List ℕ
-cells f zero = replicate 16 0
-cells f (suc k) = set (cells f k) k (f k)
+unfoldable pub rowTo : (ℕ → ℕ) → ℕ → List ℕ
+rowTo f zero = replicate 16 0
+rowTo f (suc k) = set (rowTo f k) k (f k)
 
 -- Sixteen rows of sixteen cells: f at the first r cells of the first k rows.
 unfoldable pub rowsOf : (ℕ → ℕ → ℕ) → (r k : ℕ) → List (List ℕ)
 rowsOf f r zero = replicate 16 (replicate 16 0)
-rowsOf f r (suc k) = set (rowsOf f r k) k (cells (f k) r)
+rowsOf f r (suc k) = set (rowsOf f r k) k (rowTo (f k) r)
 
 -- The transport times from each machine to each.
 abbrev pub transportsOf : Problem → List (List ℕ)

@@ -8,6 +8,7 @@ use lib.ListN.{getD}
 use lib.IntN.{ℤ}
 use lib.Ieee.{ofBits, binary64}
 use Rattle.words.specs.Signed.{signedWord, clamp}
+use Rattle.graph.specs.Filing.{consIf}
 use Rattle.grammar.specs.Rules.{totalFrom}
 use Rattle.plan.specs.Problem.{Problem, Genes}
 use Rattle.plan.specs.declared.Layout.{Layout}
@@ -20,10 +21,6 @@ cell ws at width e f = getD ws (at + 1 + width * e + f) 0
 abbrev pub someIf {ℓ} : {A : Type ℓ} → Bool → A → Option A
 someIf true x = some x
 someIf false x = none
-
-abbrev pub consIf : Bool → ℕ → List ℕ → List ℕ
-consIf true x l = x ∷ l
-consIf false x l = l
 
 -- Of n pairs from `at` on: the second words of those whose first word is a, and the first words of those whose second word is b, as listed.
 unfoldable pub seconds : (words : List ℕ) → (n at a : ℕ) → List ℕ

@@ -5,7 +5,7 @@ ghost use Prim.Native.Nat.{ℕ, _+_, _*_, _-_, _<_, _≤_, _^_};
 ghost use lib.ListN.{length, getD};
 ghost use Rattle.words.specs.Words.{words};
 ghost use Rattle.plan.specs.Input.{cell, releaseIn, problemOf, genesOf};
-ghost use Rattle.plan.specs.Found.{Placed, Weighed, layoutOf, dueOf, machineOr, timesOf, cells, transportsOf};
+ghost use Rattle.plan.specs.Found.{Placed, Weighed, layoutOf, dueOf, machineOr, timesOf, rowTo, transportsOf};
 use reader::Reading;
 
 // Where each section's count stands, as a word number.
@@ -170,7 +170,7 @@ pub fn later_release(s: &[u8], z: Layout, t: usize, a: usize) -> u32
 // The ways from one machine to each, zeros after the last.
 fn transport_row(s: &[u8], z: Layout, from: usize) -> [u32; 16]
     requires { ⌜ Placed z × (from < 2 ^ 16) ⌝ }
-    ensures { λ r. ⌜ r ≡ cells (problemOf (words (now (s .entry))) z .transport from) (z .machines) ⌝ }
+    ensures { λ r. ⌜ r ≡ rowTo (problemOf (words (now (s .entry))) z .transport from) (z .machines) ⌝ }
 {
     let mut row: [u32; 16] = [0; 16];
     let mut to: usize = 0;
