@@ -1,7 +1,6 @@
 // A plan taken in whole: read, its tables filled, and refused 4 where task order and predecessors close a circle.
 ghost use mathlib.Core.Path.{_≡_};
-ghost use Prim.Native.Nat.{ℕ, _+_, _*_, _-_, _<_, _≤_, _^_};
-ghost use lib.ListN.{length, getD, take};
+ghost use lib.ListN.{length, replicate};
 ghost use Rattle.words.specs.Words.{words};
 ghost use Rattle.plan.specs.Input.{problemOf, genesOf};
 ghost use Rattle.plan.specs.Accepted.{Accepted};
@@ -91,9 +90,10 @@ pub fn take_in(s: &[u8], table: &mut [usize]) -> Reading
     r
 }
 
-// Room for the tables. The `ensures` gives only the length, which is all that lending it asks for.
+// Room for the tables, all zeros.
 pub fn table_room() -> [usize; 4739]
-    ensures { λ r. ⌜ cells ≡ length r ⌝ }
+    ensures length { λ r. ⌜ cells ≡ length r ⌝ }
+    ensures zeros { λ r. ⌜ r ≡ replicate cells 0 ⌝ }
 {
     [0; 4739]
 }

@@ -1,3 +1,4 @@
+pub mod ListLaws
 pub mod EntriesLaws
 pub mod FillLaws
 pub mod ColumnLaws

@@ -2,12 +2,12 @@
 use crate::Change;
 use graph::Link;
 ghost use mathlib.Core.Path.{_≡_};
-ghost use Prim.Native.Nat.{_+_, _*_, _<_};
-ghost use lib.ListN.{length};
+ghost use Prim.Native.Nat.{_+_, _-_, _*_, _≤_, _<_};
+ghost use lib.ListN.{length, getD, take, drop};
 ghost use Rattle.plan.specs.Problem.{Problem};
 ghost use Rattle.tables.specs.Regions.{cells};
 ghost use Rattle.tables.specs.Tabled.{Tabled, taskPred, taskSucc};
-ghost use Rattle.tables.specs.Found.{changeOf};
+ghost use Rattle.tables.specs.Found.{changeOf, Held};
 
 // The task of an activity.
 pub fn owner(table: &[usize], a: usize) -> usize
@@ -69,4 +69,40 @@ pub fn change_of(table: &[usize], m: usize, before: usize, own: usize) -> Change
         return Change::Own;
     }
     Change::To((code - 1) as u64)
+}
+
+// The numbers of an activity in a list that is cut by offsets.
+fn numbers_of(table: &[usize], offsets: usize, list: usize, a: usize) -> &[usize]
+    requires { ⌜ (offsets + a + 1 < length (now table)) × (getD (now table) (offsets + a) 0 ≤ getD (now table) (offsets + a + 1) 0) × (list + getD (now table) (offsets + a + 1) 0 ≤ length (now table)) ⌝ }
+    ensures { λ r. ⌜ now r ≡ take (list + getD (now (table .entry)) (offsets + a + 1) 0 - (list + getD (now (table .entry)) (offsets + a) 0)) (drop (list + getD (now (table .entry)) (offsets + a) 0) (now (table .entry))) ⌝ }
+{
+    let first = offsets + a;
+    let next = first + 1;
+    let from = list + table[first];
+    let to = list + table[next];
+    &table[from..to]
+}
+
+// The machines that an activity may run on, as listed.
+pub fn candidates_of(table: &[usize], a: usize) -> &[usize]
+    requires { ⌜ Held (now table) a ⌝ }
+    ensures { λ r. ⌜ ((p : Problem) → Tabled p (now (table .entry)) → a < p .n → p .n ≤ 128 → now r ≡ p .candidates a) ⌝ }
+{
+    numbers_of(table, crate::CANDIDATES_AT, crate::CANDIDATES, a)
+}
+
+// The activities that an activity names, as listed.
+pub fn named_by(table: &[usize], a: usize) -> &[usize]
+    requires { ⌜ Held (now table) a ⌝ }
+    ensures { λ r. ⌜ ((p : Problem) → Tabled p (now (table .entry)) → a < p .n → p .n ≤ 128 → now r ≡ p .predecessors a) ⌝ }
+{
+    numbers_of(table, crate::NAMED_AT, crate::NAMED, a)
+}
+
+// The activities that name an activity, as listed.
+pub fn waiting_for(table: &[usize], a: usize) -> &[usize]
+    requires { ⌜ Held (now table) a ⌝ }
+    ensures { λ r. ⌜ ((p : Problem) → Tabled p (now (table .entry)) → a < p .n → p .n ≤ 128 → now r ≡ p .waiting a) ⌝ }
+{
+    numbers_of(table, crate::WAITING_AT, crate::WAITING, a)
 }
