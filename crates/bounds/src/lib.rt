@@ -1,12 +1,13 @@
 // Module 1 of document 01: what timing, both decoders and the sheet check ask of one activity.
 ghost use mathlib.Core.Path.{_≡_};
-ghost use Prim.Native.Nat.{ℕ, _+_, _*_, _-_, _<_, _≤_, _^_};
+ghost use Prim.Native.Nat.{ℕ, _+_, _*_, _-_, _<_, _≤_, _^_, max};
 ghost use lib.ListN.{length, getD};
 ghost use mathlib.Core.Option.{some};
 ghost use Rattle.words.specs.Words.{words};
 ghost use Rattle.words.specs.Signed.{signedWord};
 ghost use Rattle.graph.specs.Links.{linked};
 ghost use Rattle.graph.specs.Counting.{Below};
+ghost use Rattle.graph.specs.declared.Link.the-variants.{To};
 ghost use Rattle.plan.specs.Problem.{Problem};
 ghost use Rattle.plan.specs.Input.{problemOf, genesOf};
 ghost use Rattle.plan.specs.Found.{Placed};
@@ -19,6 +20,13 @@ use graph::Link;
 use plan::Due;
 use plan::Layout;
 use tables::Change;
+
+// The later of two moments.
+pub fn later(a: u64, b: u64) -> u64
+    ensures { λ r. ⌜ r ≡ max a b ⌝ }
+{
+    if a < b { b } else { a }
+}
 
 // The category of the task of the activity that ran before; 8 where nothing did.
 fn category_before(table: &[usize], before: Link) -> usize
@@ -68,7 +76,7 @@ pub fn span(s: &[u8], z: Layout, a: usize, m: usize, setup: u64) -> u64
 
 // When an activity can be at its machine, from the step before it and the way from that one's machine.
 pub fn arrival(before: Link, ends: &[u64], way: u64) -> u64
-    requires { ⌜ Below (length (now ends)) (linked before) × ((t : ℕ) → getD (now ends) t 0 < 2 ^ 62) × (way < 2 ^ 32) ⌝ }
+    requires { ⌜ Below (length (now ends)) (linked before) × ((t : ℕ) → before ≡ To t → getD (now ends) t 0 < 2 ^ 62) × (way < 2 ^ 32) ⌝ }
     ensures { λ r. ⌜ r ≡ arrivalOf before (λ t. getD (now (ends .entry)) t 0) way ⌝ }
 {
     let Link::To(t) = before else {

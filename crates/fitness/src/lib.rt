@@ -1,6 +1,6 @@
 // How good a placing is: its makespan and its total tardiness, weighed against each other.
 ghost use mathlib.Core.Path.{_≡_};
-ghost use Prim.Native.Nat.{_+_, _≤_, _^_, max};
+ghost use Prim.Native.Nat.{_+_, _≤_, _^_};
 ghost use lib.ListN.{length, getD};
 ghost use lib.Ieee.{toBits, binary64};
 ghost use Rattle.words.specs.Words.{words};
@@ -17,12 +17,6 @@ pub struct Sums {
     pub late: u64,
 }
 
-fn later(a: u64, b: u64) -> u64
-    ensures { λ r. ⌜ r ≡ max a b ⌝ }
-{
-    if a < b { b } else { a }
-}
-
 // When a task is complete: the latest end of its activities.
 pub fn completion(first: usize, steps: usize, ends: &[u64]) -> u64
     requires { ⌜ first + steps ≤ length (now ends) ⌝ }
@@ -30,7 +24,7 @@ pub fn completion(first: usize, steps: usize, ends: &[u64]) -> u64
 {
     let mut end: u64 = 0;
     for i in 0..steps {
-        end = later(end, ends[first + i]);
+        end = bounds::later(end, ends[first + i]);
     }
     end
 }
@@ -47,7 +41,7 @@ pub fn sums_of(s: &[u8], z: Layout, ends: &[u64]) -> Sums
     for t in 0..z.tasks {
         let steps = plan::steps(s, z, t) as usize;
         let done = completion(first, steps, ends);
-        makespan = later(makespan, done);
+        makespan = bounds::later(makespan, done);
         let due = plan::deadline(s, z, t);
         late += bounds::tardiness(done, due);
         first += steps;

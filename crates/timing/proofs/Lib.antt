@@ -5,3 +5,6 @@ pub mod Worked
 pub mod CountLaws
 pub mod LinkCount
 pub mod OrderTables
+pub mod TurnLaws
+pub mod EndLaws
+pub mod PlacingLaws

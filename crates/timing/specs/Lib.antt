@@ -1,3 +1,4 @@
 pub mod Timing
 pub mod Exactly
 pub mod Ordering
+pub mod Placing

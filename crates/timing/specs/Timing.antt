@@ -56,3 +56,13 @@ startsOf p lines = timed (startBy p lines) (spanAt p lines) (timingOrder p lines
 
 abbrev pub startOf : Problem → Lines → ℕ → ℕ
 startOf p lines a = getD (startsOf p lines) a 0
+
+-- Each activity's end is its start plus its span.
+abbrev pub endsBy : Problem → Lines → (starts : List ℕ) → List ℕ
+endsBy p lines starts = each (λ a. getD starts a 0 + spanAt p lines a) (p .n) 0
+
+abbrev pub endsOf : Problem → Lines → List ℕ
+endsOf p lines = endsBy p lines (startsOf p lines)
+
+abbrev pub setupsOf : Problem → Lines → List ℕ
+setupsOf p lines = each (setupAt p lines) (p .n) 0

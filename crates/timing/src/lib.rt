@@ -1,4 +1,7 @@
 // The timing order and the starts of a problem's lines.
+mod placing;
+
+pub use placing::place;
 ghost use mathlib.Core.Path.{_≡_};
 ghost use Prim.Native.Nat.{ℕ, _^_, _≤_, _<_};
 ghost use lib.ListN.{length, getD, take};

@@ -22,7 +22,7 @@ shared-slice-read-result : tie.Need-shared-slice-read-result
 shared-slice-read-result c = let b = c .before .before .before .before in link-names (length (now (b .args .ends))) (c .before .before .before2 .given .0 .0) (c .before .before .before2 .given .1) (b .pre .0)
 
 add-result : tie.Need-add-result
-add-result c = let b = c .before .before .before .before in let h = b .pre .1 (c .before .before .before2 .given .0 .0) in omega arith
+add-result c = let b = c .before .before .before .before in let h = b .pre .1 (c .before .before .before2 .given .0 .0) (c .before .before .before2 .given .1) in omega arith
 
 returns-2 : tie.Need-returns-2
 returns-2 c = rw (c .before .before .before2 .given .1)

@@ -1,0 +1,88 @@
+// Each activity placed along the timing order, at the earliest start that the ends of those it waits for allow.
+use crate::after_named;
+use graph::Link;
+use plan::Layout;
+ghost use mathlib.Core.Path.{_≡_};
+ghost use Prim.Native.Nat.{ℕ, _^_, _≤_, _<_};
+ghost use lib.ListN.{length, getD};
+ghost use Rattle.words.specs.Words.{words};
+ghost use Rattle.graph.specs.Counting.{Below};
+ghost use Rattle.graph.specs.Links.{linked};
+ghost use Rattle.plan.specs.Problem.{Problem};
+ghost use Rattle.plan.specs.Input.{problemOf, genesOf};
+ghost use Rattle.plan.specs.Found.{Placed, transportsOf};
+ghost use Rattle.plan.specs.Accepted.{Accepted};
+ghost use Rattle.tables.specs.Tabled.{Tabled};
+ghost use Rattle.bounds.specs.Bounds.{setupOf, spanOf};
+ghost use Rattle.lines.specs.Lines.{linesIn, WellFormed};
+ghost use Rattle.timing.specs.Placing.{machineBefore, startAfter, Ending, Bound, Seated, Whole, Placement};
+
+// The machine of the step before; 0 where there is none.
+fn machine_before(step: Link, machines: &[usize]) -> usize
+    requires { ⌜ Below (length (now machines)) (linked step) ⌝ }
+    ensures { λ r. ⌜ r ≡ machineBefore step (λ q. getD (now (machines .entry)) q 0) ⌝ }
+{
+    let Link::To(q) = step else {
+        return 0;
+    };
+    machines[q]
+}
+
+// How long an activity takes on a machine after another.
+fn span_after(s: &[u8], z: Layout, table: &[usize], a: usize, m: usize, line: Link) -> u64
+    requires { ⌜ Placed z × Accepted (problemOf (words (now s)) z) (genesOf (words (now s)) z) × Tabled (problemOf (words (now s)) z) (now table) ⌝ }
+    requires { ⌜ (a < z .activities) × (m < z .machines) × Below (z .activities) (linked line) ⌝ }
+    ensures { λ r. ⌜ r ≡ spanOf (problemOf (words (now (s .entry))) z) a m (setupOf (problemOf (words (now (s .entry))) z) a m line) ⌝ }
+{
+    let setup = bounds::setup_of(s, z, table, a, m, line);
+    bounds::span(s, z, a, m, setup)
+}
+
+// The greatest of an activity's release, the end of the one before on its machine, the end of the step before plus the way from its machine,
+// and the ends of all that it names.
+fn start_after(table: &[usize], a: usize, line: Link, step: Link, way: u64, ends: &[u64]) -> u64
+    requires { ⌜ Bound (now table) (now ends) a × Ending (now ends) line × Ending (now ends) step × (way < 2 ^ 32) ⌝ }
+    ensures { λ r. ⌜ ((p : Problem) → Tabled p (now (table .entry)) → a < p .n → p .n ≤ 128 → r ≡ startAfter p a line step way (λ q. getD (now (ends .entry)) q 0)) ⌝ }
+{
+    let released = bounds::release_of(table, a);
+    let free = bounds::arrival(line, ends, 0);
+    let there = bounds::arrival(step, ends, way);
+    let first = bounds::later(bounds::later(released, free), there);
+    after_named(tables::named_by(table, a), ends, first)
+}
+
+// Writes the start and the end of every activity, in the timing order of the lines. `before` links each to the one before it on its line,
+// and `machines` has the machine whose line holds it.
+pub fn place(
+    s: &[u8],
+    z: Layout,
+    table: &[usize],
+    ways: [[u32; 16]; 16],
+    cells: &[usize],
+    lens: [usize; 16],
+    before: &[usize],
+    machines: &[usize],
+    order: &[usize],
+    starts: &mut [u64],
+    ends: &mut [u64],
+)
+    requires { ⌜ Placed z × Accepted (problemOf (words (now s)) z) (genesOf (words (now s)) z) × Tabled (problemOf (words (now s)) z) (now table) × (ways ≡ transportsOf (problemOf (words (now s)) z)) ⌝ }
+    requires { ⌜ WellFormed (z .activities) (z .machines) (linesIn (now cells) lens) × Seated (z .activities) (linesIn (now cells) lens) (now before) (now machines) × Whole (problemOf (words (now s)) z) (linesIn (now cells) lens) (now order) ⌝ }
+    requires { ⌜ (length (now starts) ≡ z .activities) × (length (now ends) ≡ z .activities) ⌝ }
+    ensures { λ _. ⌜ Placement (problemOf (words (now (s .entry))) z) (linesIn (now (cells .entry)) lens) (now (starts .exit)) (now (ends .exit)) ⌝ }
+{
+    let mut i = 0;
+    while i < order.len() {
+        let a = order[i];
+        let m = machines[a];
+        let line = graph::link_of(before, a);
+        let step = tables::before_of(table, a);
+        let from = machine_before(step, machines);
+        let way = ways[from][m] as u64;
+        let start = start_after(table, a, line, step, way, ends);
+        let span = span_after(s, z, table, a, m, line);
+        starts[a] = start;
+        ends[a] = start + span;
+        i += 1;
+    }
+}
