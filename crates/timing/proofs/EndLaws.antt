@@ -97,12 +97,12 @@ module _ (p : Problem) (g : Genes) (ok : Accepted p g) where
         let known : getD (timingOrder p lines) i 0 < p .n = omega arith in
         let m = machine-below w a k in
         let start : startBy p lines a ends ≤ latestAt i + longest =
-            greatest-least ends (p .predecessors a) _ (latestAt i + longest)
-            (greatest-least (λ q. ends q + wayTo p lines q a) (linked (taskPred p a)) _ (latestAt i + longest)
-            (greatest-least ends (linked (linePred lines a)) (p .release a) (latestAt i + longest) (omega (arith, ok .release a))
-            (λ q c. omega (arith, earlier q (line-before i h known q (rw e c)))))
-            (λ q c. omega (arith, earlier q (task-before i h known q (rw e c)), ok .transport (machineOf lines q) (machineOf lines a) (machine-below w q (below-of (p .n) q (linked (taskPred p a)) (pred-below p g ok a k) c)) m)))
-            (λ q c. omega (arith, earlier q (named-before i h known q (rw e c)))) in
+        greatest-least ends (p .predecessors a) _ (latestAt i + longest)
+        (greatest-least (λ q. ends q + wayTo p lines q a) (linked (taskPred p a)) _ (latestAt i + longest)
+        (greatest-least ends (linked (linePred lines a)) (p .release a) (latestAt i + longest) (omega (arith, ok .release a))
+        (λ q c. omega (arith, earlier q (line-before i h known q (rw e c)))))
+        (λ q c. omega (arith, earlier q (task-before i h known q (rw e c)), ok .transport (machineOf lines q) (machineOf lines a) (machine-below w q (below-of (p .n) q (linked (taskPred p a)) (pred-below p g ok a k) c)) m)))
+        (λ q c. omega (arith, earlier q (named-before i h known q (rw e c)))) in
         omega (arith, starts-follow a k, start, span-most a (machineOf lines a) (linePred lines a) k m)
 
     -- None of the first i ends later than that.

@@ -8,3 +8,4 @@ pub mod OrderTables
 pub mod TurnLaws
 pub mod EndLaws
 pub mod PlacingLaws
+pub mod TimedLaws

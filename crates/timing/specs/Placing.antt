@@ -49,3 +49,18 @@ pub record Whole (p : Problem) (lines : Lines) (order : List ℕ) : Type 0 where
 pub record Placement (p : Problem) (lines : Lines) (starts ends : List ℕ) : Type 0 where
   pub begun : starts ≡ startsOf p lines
   pub done : ends ≡ endsOf p lines
+
+-- What is known of lines once they are timed.
+pub record Timed (p : Problem) (lines : Lines) (order starts ends : List ℕ) : Type 0 where
+  pub whole : Whole p lines order
+  pub placement : Placement p lines starts ends
+
+-- Room for what is found out about n activities: their links, the order, the starts and the ends.
+pub record Rooms (n : ℕ) (before after machines places order starts ends : List ℕ) : Type 0 where
+  pub length-before : length before ≡ n
+  pub length-after : length after ≡ n
+  pub length-machines : length machines ≡ n
+  pub length-places : length places ≡ n
+  pub length-order : length order ≡ n
+  pub length-starts : length starts ≡ n
+  pub length-ends : length ends ≡ n

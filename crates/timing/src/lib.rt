@@ -1,6 +1,7 @@
 // The timing order and the starts of a problem's lines.
 mod placing;
 
+pub use placing::fill_setups;
 pub use placing::place;
 ghost use mathlib.Core.Path.{_≡_};
 ghost use Prim.Native.Nat.{ℕ, _^_, _≤_, _<_};
@@ -15,6 +16,11 @@ ghost use Rattle.tables.specs.Tabled.{Tabled};
 ghost use Rattle.lines.specs.Lines.{linesIn, WellFormed};
 ghost use Rattle.timing.specs.Timing.{timingOrder};
 ghost use Rattle.timing.specs.Ordering.{withLine, Neighbours, Space};
+ghost use mathlib.Core.Bool.{true, not};
+ghost use Rattle.plan.specs.Found.{Placed, transportsOf};
+ghost use Rattle.lines.specs.Linking.{LinesHeld, linksOf};
+ghost use Rattle.timing.specs.Timing.{contradicts};
+ghost use Rattle.timing.specs.Placing.{Timed, Rooms};
 use graph::Link;
 use plan::Layout;
 
@@ -61,7 +67,7 @@ fn line_waits(before: &[usize], a: usize) -> usize
 
 // Writes the timing order of the lines and answers how many activities it names: fewer than there are where the lines contradict.
 // `before` and `after` link each activity to its neighbours on its line; counts, stack and order are work space.
-pub fn order_lines(
+fn order_lines(
     s: &[u8],
     z: Layout,
     table: &[usize],
@@ -96,4 +102,81 @@ pub fn order_lines(
         stack,
         order,
     )
+}
+
+// The same with work space of its own.
+pub fn timing_order(
+    s: &[u8],
+    z: Layout,
+    table: &[usize],
+    cells: &[usize],
+    lens: [usize; 16],
+    before: &[usize],
+    after: &[usize],
+    order: &mut [usize],
+) -> usize
+    requires { ⌜ Tabled (problemOf (words (now s)) z) (now table) × Accepted (problemOf (words (now s)) z) (genesOf (words (now s)) z) × WellFormed (z .activities) (z .machines) (linesIn (now cells) lens) ⌝ }
+    requires { ⌜ Neighbours (z .activities) (linesIn (now cells) lens) (now before) (now after) × (length (now order) ≡ z .activities) ⌝ }
+    ensures { λ r. ⌜ (take r (now (order .exit)) ≡ timingOrder (problemOf (words (now (s .entry))) z) (linesIn (now (cells .entry)) lens)) × (r ≤ z .activities) ⌝ }
+{
+    let n = z.activities;
+    let mut counts = [0usize; 128];
+    let mut stack = [0usize; 128];
+    order_lines(
+        s,
+        z,
+        table,
+        cells,
+        lens,
+        before,
+        after,
+        &mut counts[..n],
+        &mut stack,
+        order,
+    )
+}
+
+// Times lines: false where they contradict; else the timing order, and each activity's start and end. Of each activity is written, too, who
+// stands before and after it on its line, its machine and its place there.
+pub fn time_sequences(
+    s: &[u8],
+    z: Layout,
+    table: &[usize],
+    ways: [[u32; 16]; 16],
+    cells: &[usize],
+    lens: [usize; 16],
+    before: &mut [usize],
+    after: &mut [usize],
+    machines: &mut [usize],
+    places: &mut [usize],
+    order: &mut [usize],
+    starts: &mut [u64],
+    ends: &mut [u64],
+) -> bool
+    requires { ⌜ Placed z × Accepted (problemOf (words (now s)) z) (genesOf (words (now s)) z) × Tabled (problemOf (words (now s)) z) (now table) × (ways ≡ transportsOf (problemOf (words (now s)) z)) ⌝ }
+    requires { ⌜ (length (now cells) ≡ 2048) × WellFormed (z .activities) (z .machines) (linesIn (now cells) lens) × Rooms (z .activities) (now before) (now after) (now machines) (now places) (now order) (now starts) (now ends) ⌝ }
+    ensures answer { λ r. ⌜ r ≡ not (contradicts (problemOf (words (now (s .entry))) z) (linesIn (now (cells .entry)) lens)) ⌝ }
+    ensures linked { λ _. ⌜ LinesHeld (z .activities) (linesIn (now (cells .entry)) lens) (linksOf (now (before .exit)) (now (after .exit)) (now (machines .exit)) (now (places .exit))) ⌝ }
+    ensures timed { λ r. ⌜ (r ≡ true → Timed (problemOf (words (now (s .entry))) z) (linesIn (now (cells .entry)) lens) (now (order .exit)) (now (starts .exit)) (now (ends .exit))) ⌝ }
+{
+    let n = z.activities;
+    lines::link_lines(n, cells, lens, before, after, machines, places);
+    let taken = timing_order(s, z, table, cells, lens, before, after, order);
+    if taken < n {
+        return false;
+    }
+    place(
+        s,
+        z,
+        table,
+        ways,
+        cells,
+        lens,
+        before,
+        machines,
+        order,
+        starts,
+        ends,
+    );
+    true
 }

@@ -15,6 +15,7 @@ ghost use Rattle.plan.specs.Accepted.{Accepted};
 ghost use Rattle.tables.specs.Tabled.{Tabled};
 ghost use Rattle.bounds.specs.Bounds.{setupOf, spanOf};
 ghost use Rattle.lines.specs.Lines.{linesIn, WellFormed};
+ghost use Rattle.timing.specs.Timing.{setupsOf};
 ghost use Rattle.timing.specs.Placing.{machineBefore, startAfter, Ending, Bound, Seated, Whole, Placement};
 
 // The machine of the step before; 0 where there is none.
@@ -84,5 +85,29 @@ pub fn place(
         starts[a] = start;
         ends[a] = start + span;
         i += 1;
+    }
+}
+
+// Writes the setup of every activity where its line has it.
+pub fn fill_setups(
+    s: &[u8],
+    z: Layout,
+    table: &[usize],
+    cells: &[usize],
+    lens: [usize; 16],
+    before: &[usize],
+    machines: &[usize],
+    setups: &mut [u64],
+)
+    requires { ⌜ Placed z × Accepted (problemOf (words (now s)) z) (genesOf (words (now s)) z) × Tabled (problemOf (words (now s)) z) (now table) ⌝ }
+    requires { ⌜ WellFormed (z .activities) (z .machines) (linesIn (now cells) lens) × Seated (z .activities) (linesIn (now cells) lens) (now before) (now machines) × (length (now setups) ≡ z .activities) ⌝ }
+    ensures { λ _. ⌜ now (setups .exit) ≡ setupsOf (problemOf (words (now (s .entry))) z) (linesIn (now (cells .entry)) lens) ⌝ }
+{
+    let mut a = 0;
+    while a < setups.len() {
+        let line = graph::link_of(before, a);
+        let m = machines[a];
+        setups[a] = bounds::setup_of(s, z, table, a, m, line);
+        a += 1;
     }
 }

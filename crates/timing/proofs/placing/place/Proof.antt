@@ -181,8 +181,7 @@ start-after-requires c κs =
     let here = known p g ok lines al (l .i) h in
     let step = c .before .before .before .before-of .ensures p (b .pre .0 .2) here in
     let from = c .before .before .machine-before .ensures in
-    let k = l .inv .3 lines al in
-    (
+    let k = l .inv .3 lines al in (
       record { held = record { problem = p; tabled = b .pre .0 .2; known = here; few = ok .activities .1 }; named = rw (l .inv .2) (ok .predecessors (getD (now (b .args .order)) (l .i) 0)) },
       rw (c .before .before .before .before .link-of .ensures) (line-ending p g ok lines al h (l .inv .1) (l .inv .2) k),
       step-ending p g ok lines al h (l .inv .1) (l .inv .2) k step,
