@@ -1,0 +1,3 @@
+pub mod Outcome
+pub mod Timing
+pub mod Asked

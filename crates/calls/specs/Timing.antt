@@ -1,0 +1,57 @@
+-- Document 01, "Numbers on the screen" and "Timing and fitness", for lines that the caller gives: number 6 for a buffer that is too short, then
+-- what the plan is refused for, then 7 and 8; else the rows in timing order and their fitness.
+use Prim.Native.Nat.{ℕ, _≤_}
+use mathlib.Core.Path.{_≡_}
+use mathlib.Core.Bool.{Bool, true, false, _&&_}
+use mathlib.Core.List.{List, []}
+use lib.Dec.{leb}
+use lib.Ieee.{Float}
+use lib.ListN.{length, getD, take}
+use Rattle.reader.specs.declared.Reading.{Reading}
+use Rattle.reader.specs.declared.Answer.{Answer}
+use Rattle.reader.specs.declared.Answer.the-variants.{Accepted, No}
+use Rattle.plan.specs.Problem.{Problem}
+use Rattle.intake.specs.Intake.{problemIn, takenIn}
+use Rattle.lines.specs.Lines.{Lines, linesIn, wellFormed, machineOf}
+use Rattle.intake.specs.Circle.{each}
+use Rattle.timing.specs.Timing.{timingOrder, contradicts, startsOf, endsOf, setupsOf}
+use Rattle.fitness.specs.Fitness.{fitnessOf}
+use Rattle.rows.specs.Rows.{Columns, columnsOf}
+use Rattle.calls.specs.Outcome.{Outcome, no, sheet}
+
+-- The sheet of lines that do not contradict.
+abbrev pub sheetOf : Problem → Lines → Columns
+sheetOf p lines = columnsOf (timingOrder p lines) (each (machineOf lines) (p .n) 0) (startsOf p lines) (endsOf p lines) (setupsOf p lines)
+
+abbrev pub fitnessOn : Problem → Lines → Float
+fitnessOn p lines = fitnessOf p (λ a. getD (endsOf p lines) a 0)
+
+abbrev pub eightIf : Bool → Problem → Lines → Outcome
+eightIf true p lines = no 8 0
+eightIf false p lines = sheet (p .n) (sheetOf p lines) (fitnessOn p lines)
+
+abbrev pub sevenUnless : Bool → Problem → Lines → Outcome
+sevenUnless true p lines = eightIf (contradicts p lines) p lines
+sevenUnless false p lines = no 7 0
+
+abbrev pub timedLines : Problem → Lines → Outcome
+timedLines p lines = sevenUnless (wellFormed (p .n) (p .machines) lines) p lines
+
+abbrev pub timedIf : Answer → List ℕ → Reading → Lines → Outcome
+timedIf Accepted s r lines = timedLines (problemIn s r) lines
+timedIf (No number place) s r lines = no number place
+
+-- A plan and lines for it.
+abbrev pub timedPlan : (bytes : List ℕ) → Lines → Outcome
+timedPlan s lines = timedIf (takenIn s .answer) s (takenIn s) lines
+
+-- Number 6: 2,048 cells for lines, 128 places for each result.
+abbrev pub sixUnless : Bool → Outcome → Outcome
+sixUnless true o = o
+sixUnless false o = no 6 0
+
+abbrev pub roomy : (a m s e u : List ℕ) → Bool
+roomy a m s e u = leb 128 (length a) && (leb 128 (length m) && (leb 128 (length s) && (leb 128 (length e) && leb 128 (length u))))
+
+abbrev pub timed : (bytes cells lens : List ℕ) → (a m s e u : List ℕ) → Outcome
+timed bytes cells lens a m s e u = sixUnless (leb 2048 (length cells) && roomy a m s e u) (timedPlan bytes (linesIn (take 2048 cells) lens))
