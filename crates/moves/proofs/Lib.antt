@@ -1,3 +1,4 @@
 pub mod LineLaws
 pub mod CellLaws
 pub mod PairLaws
+pub mod MoveLaws

@@ -1,0 +1,99 @@
+-- What a move does to the lines, and how it is undone. Assumes nothing.
+use mathlib.Core.Path.{_≡_, refl, sym, ap, _∙_}
+use mathlib.Core.List.{List, [], _∷_}
+use Prim.Native.Nat.{ℕ, zero, suc, _+_, _-_, _≤_, _<_}
+use native.Mathlib.Omega.{arith}
+use lib.ListN.{length, getD, set, length-set}
+use lib.Seq.{getD-set-same, getD-set-other, set-set, set-getD}
+use Rattle.graph.proofs.CountingLaws.{either}
+use Rattle.lines.specs.Lines.{Lines}
+use Rattle.moves.specs.declared.Move.{Move}
+use Rattle.moves.specs.declared.Move.the-variants.{Swap, Shift, Reassign}
+use Rattle.moves.specs.Moves.{swapAt, removeAt, insertAt, shifted, lineOf, left, joined, applied, reversed, ReassignFits, Fits}
+use Rattle.moves.proofs.LineLaws.{length-remove, length-insert, length-shifted, length-swapped, put-back, take-back, insert-at, swap-twice, shift-back}
+
+-- there are as many lines as before
+pub as-many : (made : Move) (lines : Lines) → length (applied made lines) ≡ length lines
+as-many (Swap m i) lines = length-set lines m (swapAt (lineOf lines m) i)
+as-many (Shift m i j) lines = length-set lines m (shifted (lineOf lines m) i j)
+as-many (Reassign a r i q j) lines =
+    length-set (left lines r i) q (insertAt (lineOf (left lines r i) q) j a) ∙ length-set lines r (removeAt (lineOf lines r) i)
+
+-- what `join` asks once the activity has left its line
+pub join-asks : {a r i q j : ℕ} {lines lines′ : Lines} → ReassignFits a r i q j lines → lines′ ≡ left lines r i
+    → (q < 16) × (j ≤ length (lineOf lines′ q)) × (length (lineOf lines′ q) < 128)
+join-asks {a} {r} {i} {q} {j} {lines} {lines′} f e =
+    let o : lineOf lines′ q ≡ lineOf lines q =
+    ap (λ (l : Lines). lineOf l q) e ∙ getD-set-other lines r q (removeAt (lineOf lines r) i) [] (λ z. f .other (sym z)) in
+    (f .new, rw o (f .to), rw o (f .room))
+
+-- ---- undone
+
+module _ (lines : Lines) (sixteen : length lines ≡ 16) where
+  -- one line changed and changed back
+  set-back : (m : ℕ) (f g : List ℕ → List ℕ) → m < 16 → g (f (lineOf lines m)) ≡ lineOf lines m
+      → set (set lines m (f (lineOf lines m))) m (g (lineOf (set lines m (f (lineOf lines m))) m)) ≡ lines
+  set-back m f g h e =
+      rw (getD-set-same lines m (f (lineOf lines m)) [] (omega arith), set-set lines m (f (lineOf lines m)) (g (f (lineOf lines m))), e) (set-getD lines m [])
+
+  module _ {a r i q j : ℕ} (f : ReassignFits a r i q j lines) where
+    -- the lines with the activity on none of them
+    abbrev between : Lines
+    between = left lines r i
+
+    between-many : length between ≡ 16
+    between-many = length-set lines r (removeAt (lineOf lines r) i) ∙ sixteen
+
+    old-between : lineOf between r ≡ removeAt (lineOf lines r) i
+    old-between = getD-set-same lines r (removeAt (lineOf lines r) i) [] (omega (arith, f .old))
+
+    new-between : lineOf between q ≡ lineOf lines q
+    new-between = getD-set-other lines r q (removeAt (lineOf lines r) i) [] (λ z. f .other (sym z))
+
+    -- taken out of its new line
+    taken-out : left (joined between q j a) q j ≡ between
+    taken-out =
+        rw
+        (getD-set-same between q (insertAt (lineOf between q) j a) [] (omega (arith, f .new, between-many)), set-set between q (insertAt (lineOf between q) j a) (removeAt (insertAt (lineOf between q) j a) j), take-back (lineOf between q) j a (omega (arith, f .to, ap length new-between)))
+        (set-getD between q [])
+
+    -- and put back where it stood
+    put-in-again : joined between r i a ≡ lines
+    put-in-again =
+        let e : insertAt (removeAt (lineOf lines r) i) i a ≡ lineOf lines r =
+        ap (insertAt (removeAt (lineOf lines r) i) i) (sym (f .named)) ∙ put-back (lineOf lines r) i (f .from) in
+        rw (old-between, e, set-set lines r (removeAt (lineOf lines r) i) (lineOf lines r)) (set-getD lines r [])
+
+  pub undone : (made : Move) → Fits made lines → applied (reversed made) (applied made lines) ≡ lines
+  undone (Swap m i) f = set-back m (λ l. swapAt l i) (λ l. swapAt l i) (f .machine) (swap-twice (lineOf lines m) i (f .next))
+  undone (Shift m i j) f =
+      set-back m (λ l. shifted l i j) (λ l. shifted l j i) (f .machine) (shift-back (lineOf lines m) i j (f .from) (f .to))
+  undone (Reassign a r i q j) f = ap (λ (l : Lines). joined l r i a) (taken-out f) ∙ put-in-again f
+
+  -- the move back fits the lines that the move gives
+  pub reversed-fits : (made : Move) → ((m : ℕ) → length (lineOf lines m) ≤ 128) → Fits made lines → Fits (reversed made) (applied made lines)
+  reversed-fits (Swap m i) short f =
+      record {
+        machine = f .machine;
+        next =
+            rw (getD-set-same lines m (swapAt (lineOf lines m) i) [] (omega (arith, f .machine)), length-swapped (lineOf lines m) i) (f .next);
+      }
+  reversed-fits (Shift m i j) short f =
+      let e : length (lineOf (applied (Shift m i j) lines) m) ≡ length (lineOf lines m) =
+      ap length (getD-set-same lines m (shifted (lineOf lines m) i j) [] (omega (arith, f .machine))) ∙ length-shifted (lineOf lines m) i j (f .from) in
+      record { machine = f .machine; from = omega (arith, e, f .to); to = omega (arith, e, f .from) }
+  reversed-fits (Reassign a r i q j) short f =
+      let new : lineOf (joined (between f) q j a) q ≡ insertAt (lineOf (between f) q) j a =
+      getD-set-same (between f) q (insertAt (lineOf (between f) q) j a) [] (omega (arith, f .new, between-many f)) in
+      let old : lineOf (joined (between f) q j a) r ≡ removeAt (lineOf lines r) i =
+      getD-set-other (between f) q r (insertAt (lineOf (between f) q) j a) [] (f .other) ∙ old-between f in
+      let k : j ≤ length (lineOf (between f) q) = omega (arith, f .to, ap length (new-between f)) in
+      record {
+        old = f .new;
+        new = f .old;
+        other = λ z. f .other (sym z);
+        from = omega (arith, k, ap length new, length-insert (lineOf (between f) q) j a);
+        named = ap (λ (l : List ℕ). getD l j 0) new ∙ insert-at (lineOf (between f) q) j a k;
+        to = omega (arith, f .from, ap length old, length-remove (lineOf lines r) i (f .from));
+        room = omega (arith, short r, f .from, ap length old, length-remove (lineOf lines r) i (f .from));
+      }
