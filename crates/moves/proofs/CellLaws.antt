@@ -8,7 +8,7 @@ use lib.Seq.{length-take-le, take-all, take-at, take-take, getD-take, getD-drop,
 use Rattle.graph.proofs.CountingLaws.{either}
 use Rattle.lines.specs.Lines.{Lines, cellsFrom, linesFrom, linesIn, Fit}
 use Rattle.lines.proofs.StretchLaws.{line-in}
-use Rattle.moves.specs.Moves.{removeAt, insertAt, lineOf, left, joined}
+use Rattle.moves.specs.Moves.{removeAt, insertAt, lineOf, left, joined, Holds}
 use Rattle.moves.proofs.LineLaws.{length-remove, length-insert}
 
 -- ---- what stands in a list with its part from a on, k long, replaced
@@ -96,7 +96,16 @@ fit-set lens m len h fit k x =
 
 -- ---- machine m's line
 
-module _ (cells lens : List ℕ) (m : ℕ) (roomy : length cells ≡ 2048) (sixteen : length lens ≡ 16) (fit : Fit lens) (h : m < 16) where
+module _ {cells lens : List ℕ} (held : Holds cells lens) (m : ℕ) (h : m < 16) where
+  roomy : length cells ≡ 2048
+  roomy = held .roomy
+
+  sixteen : length lens ≡ 16
+  sixteen = held .sixteen
+
+  fit : Fit lens
+  fit = held .fit
+
   -- a part of the stretch, as the code lends it
   pub part-long : (k to : ℕ) → to ≡ 128 * m + k → k ≤ 128 → length (take (to - 128 * m) (drop (128 * m) cells)) ≡ k
   part-long k to e b =
@@ -110,6 +119,15 @@ module _ (cells lens : List ℕ) (m : ℕ) (roomy : length cells ≡ 2048) (sixt
 
   pub line-long : length (lineOf (linesIn cells lens) m) ≡ getD lens m 0
   line-long = sym (ap length (part-is (128 * m + getD lens m 0) refl)) ∙ part-long (getD lens m 0) (128 * m + getD lens m 0) refl (fit m)
+
+  -- the buffer is as long as before
+  pub still-roomy : (to : ℕ) (out : List ℕ) → 128 * m ≤ to → to ≤ 2048 → length out ≡ length (take (to - 128 * m) (drop (128 * m) cells))
+      → length (take (128 * m) cells ++ (out ++ drop (to - 128 * m) (drop (128 * m) cells))) ≡ 2048
+  still-roomy to out a b e =
+      let d = length-drop (128 * m) cells in
+      let part = drop (128 * m) cells in
+      omega
+      (arith, length-append (take (128 * m) cells) (out ++ drop (to - 128 * m) part), length-append out (drop (to - 128 * m) part), length-take-le (128 * m) cells (omega arith), length-drop (to - 128 * m) part, length-take-le (to - 128 * m) part (omega arith))
 
   put : (k to len : ℕ) (part : List ℕ) → to ≡ 128 * m + k → k ≤ 128 → length part ≡ k → len ≤ k
       → linesIn (take (128 * m) cells ++ (part ++ drop (to - 128 * m) (drop (128 * m) cells))) (set lens m len) ≡ set (linesIn cells lens) m (take len part)

@@ -5,7 +5,7 @@ use mathlib.Core.Path.{_≡_}
 use mathlib.Core.List.{List, [], _∷_}
 use Prim.Native.Nat.{ℕ, zero, suc, _+_, _≤_, _<_}
 use lib.ListN.{length, getD, set, replicate}
-use Rattle.lines.specs.Lines.{Lines, linesIn}
+use Rattle.lines.specs.Lines.{Lines, linesIn, Fit}
 use Rattle.moves.specs.declared.Move.{Move}
 use Rattle.moves.specs.declared.Move.the-variants.{Swap, Shift, Reassign}
 use Rattle.moves.specs.declared.Pairing.{Pairing}
@@ -65,6 +65,12 @@ pairOf lines (Shift m i j) = two (getD (lineOf lines m) i 0) (getD (lineOf lines
 pairOf lines (Reassign a r i q j) = two a r
 
 -- ---- what a move needs
+
+-- cells and lengths with a stretch for each of sixteen lines
+pub record Holds (cells lens : List ℕ) : Type 0 where
+  pub roomy : length cells ≡ 2048
+  pub sixteen : length lens ≡ 16
+  pub fit : Fit lens
 
 pub record SwapFits (m i : ℕ) (lines : Lines) : Type 0 where
   pub machine : m < 16

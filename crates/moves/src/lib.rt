@@ -7,7 +7,7 @@ ghost use mathlib.Core.Path.{_≡_};
 ghost use Prim.Native.Nat.{ℕ, _+_, _≤_, _<_};
 ghost use lib.ListN.{length, getD, set};
 ghost use Rattle.lines.specs.Lines.{linesIn, Fit};
-ghost use Rattle.moves.specs.Moves.{swapAt, shifted, lineOf, left, joined, applied, reversed, two, pairOf, stretches, SwapFits, ShiftFits, Fits, Reads};
+ghost use Rattle.moves.specs.Moves.{swapAt, shifted, lineOf, left, joined, applied, reversed, two, pairOf, stretches, Holds, SwapFits, ShiftFits, Fits, Reads};
 
 pub enum Move {
     // Machine, position: with the next.
@@ -25,9 +25,9 @@ pub struct Pairing {
 }
 
 // The activity at a position of a machine's line and the next one change places.
-fn swap_on(machine: usize, at: usize, cells: &mut [usize], lens: [usize; 16])
-    requires { ⌜ (length (now cells) ≡ 2048) × Fit lens × SwapFits machine at (linesIn (now cells) lens) ⌝ }
-    ensures { λ _. ⌜ linesIn (now (cells .exit)) lens ≡ set (linesIn (now (cells .entry)) lens) machine (swapAt (lineOf (linesIn (now (cells .entry)) lens) machine) at) ⌝ }
+fn swap_on(machine: usize, at: usize, cells: &mut [usize], lens: &[usize; 16])
+    requires { ⌜ Holds (now cells) (now lens) × SwapFits machine at (linesIn (now cells) (now lens)) ⌝ }
+    ensures { λ _. ⌜ linesIn (now (cells .exit)) (now (lens .entry)) ≡ set (linesIn (now (cells .entry)) (now (lens .entry))) machine (swapAt (lineOf (linesIn (now (cells .entry)) (now (lens .entry))) machine) at) ⌝ }
 {
     let start = 128 * machine;
     let end = start + lens[machine];
@@ -35,43 +35,39 @@ fn swap_on(machine: usize, at: usize, cells: &mut [usize], lens: [usize; 16])
 }
 
 // An activity goes to another position of its line.
-fn shift_on(machine: usize, from: usize, to: usize, cells: &mut [usize], lens: [usize; 16])
-    requires { ⌜ (length (now cells) ≡ 2048) × Fit lens × ShiftFits machine from to (linesIn (now cells) lens) ⌝ }
-    ensures { λ _. ⌜ linesIn (now (cells .exit)) lens ≡ set (linesIn (now (cells .entry)) lens) machine (shifted (lineOf (linesIn (now (cells .entry)) lens) machine) from to) ⌝ }
+fn shift_on(machine: usize, from: usize, to: usize, cells: &mut [usize], lens: &[usize; 16])
+    requires { ⌜ Holds (now cells) (now lens) × ShiftFits machine from to (linesIn (now cells) (now lens)) ⌝ }
+    ensures { λ _. ⌜ linesIn (now (cells .exit)) (now (lens .entry)) ≡ set (linesIn (now (cells .entry)) (now (lens .entry))) machine (shifted (lineOf (linesIn (now (cells .entry)) (now (lens .entry))) machine) from to) ⌝ }
 {
     let start = 128 * machine;
     let end = start + lens[machine];
     line::shift(&mut cells[start..end], from, to);
 }
 
-// The activity at a position leaves its line. Answers the lengths afterwards.
-fn leave(machine: usize, at: usize, cells: &mut [usize], lens: [usize; 16]) -> [usize; 16]
-    requires { ⌜ (length (now cells) ≡ 2048) × Fit lens × (machine < 16) × (at < length (lineOf (linesIn (now cells) lens) machine)) ⌝ }
-    ensures { λ r. ⌜ linesIn (now (cells .exit)) r ≡ left (linesIn (now (cells .entry)) lens) machine at ⌝ }
-    ensures { λ r. ⌜ Fit r ⌝ }
+// The activity at a position leaves its line.
+fn leave(machine: usize, at: usize, cells: &mut [usize], lens: &mut [usize; 16])
+    requires { ⌜ Holds (now cells) (now lens) × (machine < 16) × (at < length (lineOf (linesIn (now cells) (now lens)) machine)) ⌝ }
+    ensures { λ _. ⌜ linesIn (now (cells .exit)) (now (lens .exit)) ≡ left (linesIn (now (cells .entry)) (now (lens .entry))) machine at ⌝ }
+    ensures { λ _. ⌜ Holds (now (cells .exit)) (now (lens .exit)) ⌝ }
 {
     let start = 128 * machine;
     let len = lens[machine];
     let end = start + len;
     line::take_out(&mut cells[start..end], at);
-    let mut shorter = lens;
-    shorter[machine] = len - 1;
-    shorter
+    lens[machine] = len - 1;
 }
 
-// An activity joins a line that has room. Answers the lengths afterwards.
-fn join(a: usize, machine: usize, at: usize, cells: &mut [usize], lens: [usize; 16]) -> [usize; 16]
-    requires { ⌜ (length (now cells) ≡ 2048) × Fit lens × (machine < 16) × (at ≤ length (lineOf (linesIn (now cells) lens) machine)) × (length (lineOf (linesIn (now cells) lens) machine) < 128) ⌝ }
-    ensures { λ r. ⌜ linesIn (now (cells .exit)) r ≡ joined (linesIn (now (cells .entry)) lens) machine at a ⌝ }
-    ensures { λ r. ⌜ Fit r ⌝ }
+// An activity joins a line that has room.
+fn join(a: usize, machine: usize, at: usize, cells: &mut [usize], lens: &mut [usize; 16])
+    requires { ⌜ Holds (now cells) (now lens) × (machine < 16) × (at ≤ length (lineOf (linesIn (now cells) (now lens)) machine)) × (length (lineOf (linesIn (now cells) (now lens)) machine) < 128) ⌝ }
+    ensures { λ _. ⌜ linesIn (now (cells .exit)) (now (lens .exit)) ≡ joined (linesIn (now (cells .entry)) (now (lens .entry))) machine at a ⌝ }
+    ensures { λ _. ⌜ Holds (now (cells .exit)) (now (lens .exit)) ⌝ }
 {
     let start = 128 * machine;
     let len = lens[machine] + 1;
     let end = start + len;
     line::put_in(&mut cells[start..end], at, a);
-    let mut longer = lens;
-    longer[machine] = len;
-    longer
+    lens[machine] = len;
 }
 
 // Makes a move that fits the lines, and answers their lengths afterwards. Cells past a line's length
@@ -83,16 +79,18 @@ pub fn apply(made: Move, cells: &mut [usize], lens: [usize; 16]) -> [usize; 16]
 {
     match made {
         Move::Swap(machine, at) => {
-            swap_on(machine, at, cells, lens);
+            swap_on(machine, at, cells, &lens);
             lens
         }
         Move::Shift(machine, from, to) => {
-            shift_on(machine, from, to, cells, lens);
+            shift_on(machine, from, to, cells, &lens);
             lens
         }
         Move::Reassign(a, old, from, new, to) => {
-            let shorter = leave(old, from, cells, lens);
-            join(a, new, to, cells, shorter)
+            let mut after = lens;
+            leave(old, from, cells, &mut after);
+            join(a, new, to, cells, &mut after);
+            after
         }
     }
 }

@@ -1,61 +1,60 @@
 -- `moves::join` meets its contract. Assumes nothing.
 use Prim.Native.Nat.{_+_, _-_, _*_}
-use mathlib.Core.Path.{_≡_, refl}
+use mathlib.Core.Path.{refl, _∙_}
 use native.Mathlib.Omega.{arith}
-use lib.ListN.{length, getD}
-use Rattle.moves.proofs.CellLaws.{fit-set, part-long, line-long, joined-put}
 use borrow.Author.Needs.{needs}
+use lib.ListN.{getD, length-set}
+use Rattle.moves.proofs.CellLaws.{fit-set, still-roomy, part-long, line-long, joined-put}
 use Rattle.moves.proofs.join.Statement.{statement}
 use Rattle.moves.proofs.join.Tie as tie
 
 add-len : tie.Need-add-len
 add-len c =
-    let s = c .before in
-    let k : length (s .args .t5) ≡ 16 = search needs in
-    let l = line-long (s .args .cells .now) (s .args .t5) (s .args .machine) (s .pre .0) k (s .pre .1) (s .pre .2) in
-    let f = s .pre .1 (s .args .machine) in
-    let g = s .pre .3 in
-    let h = s .pre .4 in
-    omega arith
+    let s = c .before .before in
+    let l = line-long (s .pre .0) (s .args .machine) (s .pre .1) in
+    let f = s .pre .0 .fit (s .args .machine) in
+    let r = s .pre .0 .roomy in
+    omega (arith, s .pre)
 
 add-end : tie.Need-add-end
 add-end c =
-    let s = c .before in
-    let k : length (s .args .t5) ≡ 16 = search needs in
-    let l = line-long (s .args .cells .now) (s .args .t5) (s .args .machine) (s .pre .0) k (s .pre .1) (s .pre .2) in
-    let f = s .pre .1 (s .args .machine) in
-    let g = s .pre .3 in
-    let h = s .pre .4 in
-    omega arith
+    let s = c .before .before in
+    let l = line-long (s .pre .0) (s .args .machine) (s .pre .1) in
+    let f = s .pre .0 .fit (s .args .machine) in
+    let r = s .pre .0 .roomy in
+    omega (arith, s .pre)
 
 part-put-in-end : tie.Need-part-put-in-end
 part-put-in-end c =
-    let s = c .before in
-    let k : length (s .args .t5) ≡ 16 = search needs in
-    let l = line-long (s .args .cells .now) (s .args .t5) (s .args .machine) (s .pre .0) k (s .pre .1) (s .pre .2) in
-    let f = s .pre .1 (s .args .machine) in
-    let g = s .pre .3 in
-    let h = s .pre .4 in
-    omega arith
+    let s = c .before .before in
+    let l = line-long (s .pre .0) (s .args .machine) (s .pre .1) in
+    let f = s .pre .0 .fit (s .args .machine) in
+    let r = s .pre .0 .roomy in
+    omega (arith, s .pre)
 
 put-in-requires : tie.Need-put-in-requires
 put-in-requires c κs =
-    let s = c .before .before in
-    let k : length (s .args .t5) ≡ 16 = search needs in
+    let s = c .before .before .before in
     let m = s .args .machine in
-    let f = s .pre .1 m in
-    let l = line-long (s .args .cells .now) (s .args .t5) m (s .pre .0) k (s .pre .1) (s .pre .2) in
-    let p = part-long (s .args .cells .now) (s .args .t5) m (s .pre .0) k (s .pre .1) (s .pre .2) (getD (s .args .t5) m 0 + 1) (128 * m + (getD (s .args .t5) m 0 + 1)) refl (omega arith) in
-    omega (arith, s .pre .3)
+    let f = s .pre .0 .fit m in
+    let l = line-long (s .pre .0) m (s .pre .1) in
+    let p = part-long (s .pre .0) m (s .pre .1) (getD (s .args .lens .now) m 0 + 1) (128 * m + (getD (s .args .lens .now) m 0 + 1)) refl (omega (arith, s .pre)) in
+    omega (arith, s .pre)
 
 returns : tie.Need-returns
 returns c =
-    let s = c .before .before .before .before .before in
-    let k : length (s .args .t5) ≡ 16 = search needs in
+    let s = c .before .before .before .before .before .before in
     let m = s .args .machine in
-    let f = s .pre .1 m in
-    let l = line-long (s .args .cells .now) (s .args .t5) m (s .pre .0) k (s .pre .1) (s .pre .2) in
-    (joined-put (s .args .cells .now) (s .args .t5) m (s .pre .0) k (s .pre .1) (s .pre .2) (s .args .at) (s .args .a) _ (128 * m + (getD (s .args .t5) m 0 + 1)) refl (omega (arith, s .pre .4)) (c .before .before .put-in .ensures), fit-set (s .args .t5) m (getD (s .args .t5) m 0 + 1) (omega arith) (s .pre .1) (omega arith))
+    let f = s .pre .0 .fit m in
+    let l = line-long (s .pre .0) m (s .pre .1) in
+    (
+      joined-put (s .pre .0) m (s .pre .1) (s .args .at) (s .args .a) _ (128 * m + (getD (s .args .lens .now) m 0 + 1)) refl (omega (arith, s .pre)) (c .before .before .put-in .ensures),
+      record {
+        roomy = still-roomy (s .pre .0) m (s .pre .1) (128 * m + (getD (s .args .lens .now) m 0 + 1)) (c .before .before .put-in .last .0) (omega arith) (omega (arith, s .pre)) (c .before .before .put-in .kept .0);
+        sixteen = length-set (s .args .lens .now) m (getD (s .args .lens .now) m 0 + 1) ∙ s .pre .0 .sixteen;
+        fit = fit-set (s .args .lens .now) m (getD (s .args .lens .now) m 0 + 1) (omega (arith, s .pre .0 .sixteen, s .pre)) (s .pre .0 .fit) (omega (arith, s .pre));
+      },
+    )
 
 pub join-spec : {M : Type 1} → statement M
 join-spec =

@@ -1,58 +1,60 @@
 -- `moves::leave` meets its contract. Assumes nothing.
 use Prim.Native.Nat.{_+_, _-_, _*_}
-use mathlib.Core.Path.{_≡_, refl}
+use mathlib.Core.Path.{refl, _∙_}
 use native.Mathlib.Omega.{arith}
-use lib.ListN.{length, getD}
-use Rattle.moves.proofs.CellLaws.{fit-set, part-long, line-long, left-put}
 use borrow.Author.Needs.{needs}
+use lib.ListN.{getD, length-set}
+use Rattle.moves.proofs.CellLaws.{fit-set, still-roomy, part-long, line-long, left-put}
 use Rattle.moves.proofs.leave.Statement.{statement}
 use Rattle.moves.proofs.leave.Tie as tie
 
 add-end : tie.Need-add-end
 add-end c =
-    let s = c .before in
-    let k : length (s .args .t4) ≡ 16 = search needs in
-    let l = line-long (s .args .cells .now) (s .args .t4) (s .args .machine) (s .pre .0) k (s .pre .1) (s .pre .2) in
-    let f = s .pre .1 (s .args .machine) in
-    let g = s .pre .3 in
-    omega arith
+    let s = c .before .before in
+    let l = line-long (s .pre .0) (s .args .machine) (s .pre .1) in
+    let f = s .pre .0 .fit (s .args .machine) in
+    let r = s .pre .0 .roomy in
+    omega (arith, s .pre)
 
 part-take-out-end : tie.Need-part-take-out-end
 part-take-out-end c =
-    let s = c .before in
-    let k : length (s .args .t4) ≡ 16 = search needs in
-    let l = line-long (s .args .cells .now) (s .args .t4) (s .args .machine) (s .pre .0) k (s .pre .1) (s .pre .2) in
-    let f = s .pre .1 (s .args .machine) in
-    let g = s .pre .3 in
-    omega arith
+    let s = c .before .before in
+    let l = line-long (s .pre .0) (s .args .machine) (s .pre .1) in
+    let f = s .pre .0 .fit (s .args .machine) in
+    let r = s .pre .0 .roomy in
+    omega (arith, s .pre)
+
+sub-lens : tie.Need-sub-lens
+sub-lens c =
+    let s = c .before .before .before .before .before .before in
+    let l = line-long (s .pre .0) (s .args .machine) (s .pre .1) in
+    let f = s .pre .0 .fit (s .args .machine) in
+    let r = s .pre .0 .roomy in
+    omega (arith, s .pre)
 
 take-out-requires : tie.Need-take-out-requires
 take-out-requires c κs =
-    let s = c .before .before in
-    let k : length (s .args .t4) ≡ 16 = search needs in
+    let s = c .before .before .before in
     let m = s .args .machine in
-    let f = s .pre .1 m in
-    let l = line-long (s .args .cells .now) (s .args .t4) m (s .pre .0) k (s .pre .1) (s .pre .2) in
-    let p = part-long (s .args .cells .now) (s .args .t4) m (s .pre .0) k (s .pre .1) (s .pre .2) (getD (s .args .t4) m 0) (128 * m + (getD (s .args .t4) m 0)) refl (omega arith) in
-    omega (arith, s .pre .3)
-
-sub-shorter : tie.Need-sub-shorter
-sub-shorter c =
-    let s = c .before .before .before .before .before in
-    let k : length (s .args .t4) ≡ 16 = search needs in
-    let l = line-long (s .args .cells .now) (s .args .t4) (s .args .machine) (s .pre .0) k (s .pre .1) (s .pre .2) in
-    let f = s .pre .1 (s .args .machine) in
-    let g = s .pre .3 in
-    omega arith
+    let f = s .pre .0 .fit m in
+    let l = line-long (s .pre .0) m (s .pre .1) in
+    let p = part-long (s .pre .0) m (s .pre .1) (getD (s .args .lens .now) m 0) (128 * m + (getD (s .args .lens .now) m 0)) refl (omega (arith, s .pre)) in
+    omega (arith, s .pre)
 
 returns : tie.Need-returns
 returns c =
-    let s = c .before .before .before .before .before in
-    let k : length (s .args .t4) ≡ 16 = search needs in
+    let s = c .before .before .before .before .before .before in
     let m = s .args .machine in
-    let f = s .pre .1 m in
-    let l = line-long (s .args .cells .now) (s .args .t4) m (s .pre .0) k (s .pre .1) (s .pre .2) in
-    (left-put (s .args .cells .now) (s .args .t4) m (s .pre .0) k (s .pre .1) (s .pre .2) (s .args .at) _ (128 * m + getD (s .args .t4) m 0) refl (s .pre .3) (c .before .before .take-out .ensures), fit-set (s .args .t4) m (getD (s .args .t4) m 0 - 1) (omega arith) (s .pre .1) (omega arith))
+    let f = s .pre .0 .fit m in
+    let l = line-long (s .pre .0) m (s .pre .1) in
+    (
+      left-put (s .pre .0) m (s .pre .1) (s .args .at) _ (128 * m + getD (s .args .lens .now) m 0) refl (s .pre .2) (c .before .before .take-out .ensures),
+      record {
+        roomy = still-roomy (s .pre .0) m (s .pre .1) (128 * m + getD (s .args .lens .now) m 0) (c .before .before .take-out .last .0) (omega arith) (omega (arith, s .pre)) (c .before .before .take-out .kept .0);
+        sixteen = length-set (s .args .lens .now) m (getD (s .args .lens .now) m 0 - 1) ∙ s .pre .0 .sixteen;
+        fit = fit-set (s .args .lens .now) m (getD (s .args .lens .now) m 0 - 1) (omega (arith, s .pre .0 .sixteen, s .pre)) (s .pre .0 .fit) (omega (arith, s .pre));
+      },
+    )
 
 pub leave-spec : {M : Type 1} → statement M
 leave-spec =
@@ -67,7 +69,7 @@ leave-spec =
     (λ c. search needs)
     part-take-out-end
     take-out-requires
-    sub-shorter
+    sub-lens
     (λ c. search needs)
     (λ c. search needs)
     (λ c. search needs)
