@@ -7,7 +7,7 @@ use lib.ListN.{length, getD, set, take, drop, length-append, length-drop, List·
 use lib.Seq.{length-take-le, take-all, take-at, take-take, getD-take, getD-drop, getD-append-add, getD-set-same, getD-set-other, set-getD}
 use Rattle.graph.proofs.CountingLaws.{either}
 use Rattle.lines.specs.Lines.{Lines, cellsFrom, linesFrom, linesIn, Fit}
-use Rattle.lines.proofs.StretchLaws.{line-in}
+use Rattle.lines.proofs.StretchLaws.{cells-length, line-in}
 use Rattle.moves.specs.Moves.{removeAt, insertAt, lineOf, left, joined, Holds}
 use Rattle.moves.proofs.LineLaws.{length-remove, length-insert}
 
@@ -94,6 +94,25 @@ fit-set lens m len h fit k x =
     (λ e. subst (λ (y : ℕ). getD (set lens m len) y 0 ≤ 128) (sym e) (omega (arith, getD-set-same lens m len 0 h)))
     (λ ne. omega (arith, fit x, getD-set-other lens m x len 0 ne))
 
+-- a line is as long as its length says
+lines-long : (cells : List ℕ) (at : ℕ) (lens : List ℕ) (m : ℕ) → length (lineOf (linesFrom cells at lens) m) ≡ getD lens m 0
+unfolding linesFrom
+lines-long cells at [] m = refl
+lines-long cells at (len ∷ lens) zero = cells-length cells at len
+lines-long cells at (len ∷ lens) (suc m) = lines-long cells (at + 128) lens m
+
+pub line-long : (cells lens : List ℕ) (m : ℕ) → length (lineOf (linesIn cells lens) m) ≡ getD lens m 0
+line-long cells lens m = lines-long cells 0 lens m
+
+lines-many : (cells : List ℕ) (at : ℕ) (lens : List ℕ) → length (linesFrom cells at lens) ≡ length lens
+unfolding linesFrom
+lines-many cells at [] = refl
+lines-many cells at (len ∷ lens) = ap suc (lines-many cells (at + 128) lens)
+
+-- there are as many lines as lengths
+pub many-in : (cells lens : List ℕ) → length (linesIn cells lens) ≡ length lens
+many-in cells lens = lines-many cells 0 lens
+
 -- ---- machine m's line
 
 module _ {cells lens : List ℕ} (held : Holds cells lens) (m : ℕ) (h : m < 16) where
@@ -116,9 +135,6 @@ module _ {cells lens : List ℕ} (held : Holds cells lens) (m : ℕ) (h : m < 16
   part-is to e =
       let q : to - 128 * m ≡ getD lens m 0 = omega arith in
       rw q (sym (line-in cells lens m (omega arith) (omega (arith, fit m))))
-
-  pub line-long : length (lineOf (linesIn cells lens) m) ≡ getD lens m 0
-  line-long = sym (ap length (part-is (128 * m + getD lens m 0) refl)) ∙ part-long (getD lens m 0) (128 * m + getD lens m 0) refl (fit m)
 
   -- the buffer is as long as before
   pub still-roomy : (to : ℕ) (out : List ℕ) → 128 * m ≤ to → to ≤ 2048 → length out ≡ length (take (to - 128 * m) (drop (128 * m) cells))
@@ -145,7 +161,7 @@ module _ {cells lens : List ℕ} (held : Holds cells lens) (m : ℕ) (h : m < 16
       → linesIn (take (128 * m) cells ++ (out ++ drop (to - 128 * m) (drop (128 * m) cells))) lens ≡ set (linesIn cells lens) m (f (lineOf (linesIn cells lens) m))
   line-put f out to e o g =
       let is : out ≡ f (lineOf (linesIn cells lens) m) = o ∙ ap f (part-is to e) in
-      let long : length out ≡ getD lens m 0 = ap length is ∙ g ∙ line-long in
+      let long : length out ≡ getD lens m 0 = ap length is ∙ g ∙ line-long cells lens m in
       sym (ap (λ (l : List ℕ). linesIn (take (128 * m) cells ++ (out ++ drop (to - 128 * m) (drop (128 * m) cells))) l) (set-getD lens m 0))
       ∙ put (getD lens m 0) to (getD lens m 0) out e (fit m) long (omega arith)
       ∙ ap (λ (l : List ℕ). set (linesIn cells lens) m l) (take-all (getD lens m 0) out (omega arith) ∙ is)
@@ -157,9 +173,9 @@ module _ {cells lens : List ℕ} (held : Holds cells lens) (m : ℕ) (h : m < 16
   left-put i out to e b o =
       let l = lineOf (linesIn cells lens) m in
       let is : out ≡ removeAt l i ++ (getD l i 0 ∷ []) = o ∙ ap (λ (p : List ℕ). removeAt p i ++ (getD p i 0 ∷ [])) (part-is to e) in
-      let short : length (removeAt l i) ≡ getD lens m 0 - 1 = omega (arith, length-remove l i b, line-long) in
+      let short : length (removeAt l i) ≡ getD lens m 0 - 1 = omega (arith, length-remove l i b, line-long cells lens m) in
       let long : length out ≡ getD lens m 0 =
-      omega (arith, ap length is, length-append (removeAt l i) (getD l i 0 ∷ []), length-remove l i b, line-long) in
+      omega (arith, ap length is, length-append (removeAt l i) (getD l i 0 ∷ []), length-remove l i b, line-long cells lens m) in
       put (getD lens m 0) to (getD lens m 0 - 1) out e (fit m) long (omega arith)
       ∙ ap (λ (l : List ℕ). set (linesIn cells lens) m l) (ap (take (getD lens m 0 - 1)) is ∙ take-at (removeAt l i) (getD l i 0 ∷ []) (getD lens m 0 - 1) short)
 
@@ -176,6 +192,6 @@ module _ {cells lens : List ℕ} (held : Holds cells lens) (m : ℕ) (h : m < 16
       let rest : take k (take (to - 128 * m) (drop (128 * m) cells)) ≡ l =
       take-take k (to - 128 * m) (drop (128 * m) cells) (omega arith) ∙ (rw q at p) in
       let is : out ≡ insertAt l i a = o ∙ rw (n, rest) in
-      let long : length out ≡ k + 1 = omega (arith, ap length is, length-insert l i a, line-long) in
+      let long : length out ≡ k + 1 = omega (arith, ap length is, length-insert l i a, line-long cells lens m) in
       put (k + 1) to (k + 1) out e (omega arith) long (omega arith)
       ∙ ap (λ (l : List ℕ). set (linesIn cells lens) m l) (take-all (k + 1) out (omega arith) ∙ is)

@@ -1,11 +1,10 @@
 -- What a move does to the lines, and how it is undone. Assumes nothing.
-use mathlib.Core.Path.{_≡_, refl, sym, ap, _∙_}
-use mathlib.Core.List.{List, [], _∷_}
-use Prim.Native.Nat.{ℕ, zero, suc, _+_, _-_, _≤_, _<_}
+use mathlib.Core.Path.{_≡_, sym, ap, _∙_}
+use mathlib.Core.List.{List, []}
+use Prim.Native.Nat.{ℕ, suc, _≤_, _<_}
 use native.Mathlib.Omega.{arith}
 use lib.ListN.{length, getD, set, length-set}
 use lib.Seq.{getD-set-same, getD-set-other, set-set, set-getD}
-use Rattle.graph.proofs.CountingLaws.{either}
 use Rattle.lines.specs.Lines.{Lines}
 use Rattle.moves.specs.declared.Move.{Move}
 use Rattle.moves.specs.declared.Move.the-variants.{Swap, Shift, Reassign}
@@ -27,8 +26,6 @@ join-asks {a} {r} {i} {q} {j} {lines} {lines′} f e =
     ap (λ (l : Lines). lineOf l q) e ∙ getD-set-other lines r q (removeAt (lineOf lines r) i) [] (λ z. f .other (sym z)) in
     (f .new, rw o (f .to), rw o (f .room))
 
--- ---- undone
-
 module _ (lines : Lines) (sixteen : length lines ≡ 16) where
   -- one line changed and changed back
   set-back : (m : ℕ) (f g : List ℕ → List ℕ) → m < 16 → g (f (lineOf lines m)) ≡ lineOf lines m
@@ -36,10 +33,15 @@ module _ (lines : Lines) (sixteen : length lines ≡ 16) where
   set-back m f g h e =
       rw (getD-set-same lines m (f (lineOf lines m)) [] (omega arith), set-set lines m (f (lineOf lines m)) (g (f (lineOf lines m))), e) (set-getD lines m [])
 
+  -- ---- the lines after a reassignment
+
   module _ {a r i q j : ℕ} (f : ReassignFits a r i q j lines) where
-    -- the lines with the activity on none of them
+    -- with the activity on none of them
     abbrev between : Lines
     between = left lines r i
+
+    abbrev pub after : Lines
+    after = joined between q j a
 
     between-many : length between ≡ 16
     between-many = length-set lines r (removeAt (lineOf lines r) i) ∙ sixteen
@@ -50,19 +52,39 @@ module _ (lines : Lines) (sixteen : length lines ≡ 16) where
     new-between : lineOf between q ≡ lineOf lines q
     new-between = getD-set-other lines r q (removeAt (lineOf lines r) i) [] (λ z. f .other (sym z))
 
-    -- taken out of its new line
-    taken-out : left (joined between q j a) q j ≡ between
+    pub new-line : lineOf after q ≡ insertAt (lineOf lines q) j a
+    new-line =
+        getD-set-same between q (insertAt (lineOf between q) j a) [] (omega (arith, f .new, between-many))
+        ∙ ap (λ (l : List ℕ). insertAt l j a) new-between
+
+    pub old-line : lineOf after r ≡ removeAt (lineOf lines r) i
+    old-line = getD-set-other between q r (insertAt (lineOf between q) j a) [] (f .other) ∙ old-between
+
+    pub other-line : (x : ℕ) → (x ≡ q → ⊥) → (x ≡ r → ⊥) → lineOf after x ≡ lineOf lines x
+    other-line x nq nr =
+        getD-set-other between q x (insertAt (lineOf between q) j a) [] nq ∙ getD-set-other lines r x (removeAt (lineOf lines r) i) [] nr
+
+    pub new-long : length (lineOf after q) ≡ suc (length (lineOf lines q))
+    new-long = ap length new-line ∙ length-insert (lineOf lines q) j a
+
+    pub old-long : suc (length (lineOf after r)) ≡ length (lineOf lines r)
+    old-long = ap (λ (l : List ℕ). suc (length l)) old-line ∙ length-remove (lineOf lines r) i (f .from)
+
+    -- taken out of its new line again
+    taken-out : left after q j ≡ between
     taken-out =
         rw
-        (getD-set-same between q (insertAt (lineOf between q) j a) [] (omega (arith, f .new, between-many)), set-set between q (insertAt (lineOf between q) j a) (removeAt (insertAt (lineOf between q) j a) j), take-back (lineOf between q) j a (omega (arith, f .to, ap length new-between)))
+        (new-line, set-set between q (insertAt (lineOf between q) j a) (removeAt (insertAt (lineOf lines q) j a) j), take-back (lineOf lines q) j a (f .to), ← new-between)
         (set-getD between q [])
 
-    -- and put back where it stood
+    -- and put in where it stood
     put-in-again : joined between r i a ≡ lines
     put-in-again =
         let e : insertAt (removeAt (lineOf lines r) i) i a ≡ lineOf lines r =
         ap (insertAt (removeAt (lineOf lines r) i) i) (sym (f .named)) ∙ put-back (lineOf lines r) i (f .from) in
         rw (old-between, e, set-set lines r (removeAt (lineOf lines r) i) (lineOf lines r)) (set-getD lines r [])
+
+  -- ---- undone
 
   pub undone : (made : Move) → Fits made lines → applied (reversed made) (applied made lines) ≡ lines
   undone (Swap m i) f = set-back m (λ l. swapAt l i) (λ l. swapAt l i) (f .machine) (swap-twice (lineOf lines m) i (f .next))
@@ -83,17 +105,12 @@ module _ (lines : Lines) (sixteen : length lines ≡ 16) where
       ap length (getD-set-same lines m (shifted (lineOf lines m) i j) [] (omega (arith, f .machine))) ∙ length-shifted (lineOf lines m) i j (f .from) in
       record { machine = f .machine; from = omega (arith, e, f .to); to = omega (arith, e, f .from) }
   reversed-fits (Reassign a r i q j) short f =
-      let new : lineOf (joined (between f) q j a) q ≡ insertAt (lineOf (between f) q) j a =
-      getD-set-same (between f) q (insertAt (lineOf (between f) q) j a) [] (omega (arith, f .new, between-many f)) in
-      let old : lineOf (joined (between f) q j a) r ≡ removeAt (lineOf lines r) i =
-      getD-set-other (between f) q r (insertAt (lineOf (between f) q) j a) [] (f .other) ∙ old-between f in
-      let k : j ≤ length (lineOf (between f) q) = omega (arith, f .to, ap length (new-between f)) in
       record {
         old = f .new;
         new = f .old;
         other = λ z. f .other (sym z);
-        from = omega (arith, k, ap length new, length-insert (lineOf (between f) q) j a);
-        named = ap (λ (l : List ℕ). getD l j 0) new ∙ insert-at (lineOf (between f) q) j a k;
-        to = omega (arith, f .from, ap length old, length-remove (lineOf lines r) i (f .from));
-        room = omega (arith, short r, f .from, ap length old, length-remove (lineOf lines r) i (f .from));
+        from = omega (arith, f .to, new-long f);
+        named = ap (λ (l : List ℕ). getD l j 0) (new-line f) ∙ insert-at (lineOf lines q) j a (f .to);
+        to = omega (arith, f .from, old-long f);
+        room = omega (arith, short r, old-long f);
       }

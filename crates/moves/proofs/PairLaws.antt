@@ -1,8 +1,7 @@
 -- A pair is read from the stretches, which hold at a line's positions what the line has there. Assumes nothing.
 use mathlib.Core.Path.{_≡_, refl, sym, ap, _∙_}
 use mathlib.Core.List.{List}
-use Prim.Native.Nat.{ℕ, zero, suc, _+_, _*_, _-_, _≤_, _<_}
-use native.Mathlib.Numerals.{add-one}
+use Prim.Native.Nat.{ℕ, suc, _+_, _*_, _-_, _<_}
 use native.Mathlib.Omega.{arith}
 use lib.ListN.{length, getD, take, drop, replicate, getD-replicate}
 use lib.Seq.{getD-take}
@@ -10,8 +9,7 @@ use Rattle.lines.specs.Lines.{linesIn}
 use Rattle.lines.proofs.StretchLaws.{line-in}
 use Rattle.moves.specs.declared.Move.{Move}
 use Rattle.moves.specs.declared.Move.the-variants.{Swap, Shift, Reassign}
-use Rattle.moves.specs.declared.Pairing.{Pairing}
-use Rattle.moves.specs.Moves.{lineOf, two, pairOf, stretches, Holds, Fits, Reads}
+use Rattle.moves.specs.Moves.{lineOf, pairOf, stretches, Holds, Fits, Reads}
 use Rattle.moves.proofs.CellLaws.{line-long}
 
 -- machine m's whole stretch, as the code lends it
@@ -24,7 +22,7 @@ stretch-is cells roomy m h =
 module _ {cells lens : List ℕ} (held : Holds cells lens) where
   same-at : (m i : ℕ) → m < 16 → i < length (lineOf (linesIn cells lens) m) → getD (lineOf (stretches cells) m) i 0 ≡ getD (lineOf (linesIn cells lens) m) i 0
   same-at m i h b =
-      let k : i < getD lens m 0 = omega (arith, line-long held m h) in
+      let k : i < getD lens m 0 = omega (arith, line-long cells lens m) in
       let f = held .fit m in
       let e : lineOf (linesIn cells lens) m ≡ take (getD lens m 0) (drop (128 * m) cells) = line-in cells lens m (omega arith) (omega arith) in
       ap (λ (l : List ℕ). getD l i 0) (sym (stretch-is cells (held .roomy) m h))
@@ -40,9 +38,9 @@ module _ {cells lens : List ℕ} (held : Holds cells lens) where
 
   -- what `pair` asks
   pub reads : (made : Move) → Fits made (linesIn cells lens) → Reads made
-  reads (Swap m i) f = (f .machine, omega (arith, f .next, line-long held m (f .machine), held .fit m))
+  reads (Swap m i) f = (f .machine, omega (arith, f .next, line-long cells lens m, held .fit m))
   reads (Shift m i j) f =
-      let l = line-long held m (f .machine) in
+      let l = line-long cells lens m in
       let k = held .fit m in
       (f .machine, omega (arith, f .from), omega (arith, f .to))
   reads (Reassign a r i q j) f = tt

@@ -2,22 +2,21 @@
 -- Assumes nothing.
 use mathlib.Core.Path.{_≡_, refl, sym, ap, _∙_, subst}
 use mathlib.Core.List.{List, [], _∷_}
-use Prim.Native.Nat.{ℕ, zero, suc, _+_, _-_, _≤_, _<_}
-use native.Mathlib.Numerals.{add-one}
+use Prim.Native.Nat.{ℕ, zero, suc, _+_, _≤_, _<_}
 use native.Mathlib.Omega.{arith}
 use lib.ListN.{length, getD, set, length-set}
 use lib.Seq.{getD-set-same, getD-set-other}
 use borrow.Author.Tests.{lt-ltb, le-ltb}
-use Rattle.graph.specs.Counting.{countOf, hit, sumTo, Below}
+use Rattle.graph.specs.Counting.{countOf, hit, Below}
 use Rattle.graph.proofs.CountingLaws.{either, hit-eq, hit-ne, count-all, sumTo-le, sumTo-full}
 use Rattle.lines.specs.Lines.{Lines, standing, holder, machineOf, WellFormed}
 use Rattle.lines.specs.Linking.{AllBelow}
 use Rattle.lines.proofs.LineLaws.{at-most-once, lines-below}
 use Rattle.moves.specs.declared.Move.{Move}
 use Rattle.moves.specs.declared.Move.the-variants.{Swap, Shift, Reassign}
-use Rattle.moves.specs.Moves.{swapAt, removeAt, insertAt, shifted, lineOf, left, joined, applied, ReassignFits, Fits, Within}
-use Rattle.moves.proofs.LineLaws.{length-remove, length-insert, length-shifted, length-swapped, count-insert, count-remove, count-shifted, count-swapped}
-use Rattle.moves.proofs.MoveLaws.{as-many}
+use Rattle.moves.specs.Moves.{swapAt, removeAt, insertAt, shifted, lineOf, left, applied, Fits, Within}
+use Rattle.moves.proofs.LineLaws.{length-shifted, length-swapped, count-insert, count-remove, count-shifted, count-swapped}
+use Rattle.moves.proofs.MoveLaws.{as-many, after, new-line, old-line, other-line, new-long, old-long}
 
 -- ---- one line replaced
 
@@ -69,37 +68,10 @@ module _ (lines : Lines) (sixteen : length lines ≡ 16) where
       (λ z. rw z (ap length (getD-set-same lines m l [] (omega arith)) ∙ e))
       (λ ne. ap length (getD-set-other lines m x l [] ne))
 
-  module _ {a r i q j : ℕ} (f : ReassignFits a r i q j lines) where
-    abbrev after : Lines
-    after = applied (Reassign a r i q j) lines
-
-    new-between : lineOf (left lines r i) q ≡ lineOf lines q
-    new-between = getD-set-other lines r q (removeAt (lineOf lines r) i) [] (λ z. f .other (sym z))
-
-    new-line : lineOf after q ≡ insertAt (lineOf lines q) j a
-    new-line =
-        getD-set-same (left lines r i) q (insertAt (lineOf (left lines r i) q) j a) [] (omega (arith, f .new, length-set lines r (removeAt (lineOf lines r) i)))
-        ∙ ap (λ (l : List ℕ). insertAt l j a) new-between
-
-    old-line : lineOf after r ≡ removeAt (lineOf lines r) i
-    old-line =
-        getD-set-other (left lines r i) q r (insertAt (lineOf (left lines r i) q) j a) [] (f .other)
-        ∙ getD-set-same lines r (removeAt (lineOf lines r) i) [] (omega (arith, f .old))
-
-    other-line : (x : ℕ) → (x ≡ q → ⊥) → (x ≡ r → ⊥) → lineOf after x ≡ lineOf lines x
-    other-line x nq nr =
-        getD-set-other (left lines r i) q x (insertAt (lineOf (left lines r i) q) j a) [] nq ∙ getD-set-other lines r x (removeAt (lineOf lines r) i) [] nr
-
-    -- by cases on which line it is
-    by-line {ℓ} : (P : ℕ → Type ℓ) → P q → P r → ((x : ℕ) → (x ≡ q → ⊥) → (x ≡ r → ⊥) → P x) → (x : ℕ) → P x
-    by-line P new old others x =
-        either x q (λ z. subst P (sym z) new) (λ nq. either x r (λ z. subst P (sym z) old) (λ nr. others x nq nr))
-
-    new-long : length (lineOf after q) ≡ suc (length (lineOf lines q))
-    new-long = ap length new-line ∙ length-insert (lineOf lines q) j a
-
-    old-long : suc (length (lineOf after r)) ≡ length (lineOf lines r)
-    old-long = ap (λ (l : List ℕ). suc (length l)) old-line ∙ length-remove (lineOf lines r) i (f .from)
+  -- by cases on which line of a reassignment it is
+  by-line : (P : ℕ → Type 0) (q r : ℕ) → P q → P r → ((x : ℕ) → (x ≡ q → ⊥) → (x ≡ r → ⊥) → P x) → (x : ℕ) → P x
+  by-line P q r new old others x =
+      either x q (λ z. subst P (sym z) new) (λ nq. either x r (λ z. subst P (sym z) old) (λ nr. others x nq nr))
 
   -- ---- lines stay well formed
 
@@ -129,9 +101,9 @@ module _ (lines : Lines) (sixteen : length lines ≡ 16) where
           once = λ b h. k b ∙ w .once b h;
           known = λ b h. w .known b (omega (arith, k b));
           short =
-              by-line f (λ x. length (lineOf (after f) x) ≤ 128) (omega (arith, new-long f, f .room)) (omega (arith, old-long f, w .short r)) (λ x nq nr. omega (arith, ap length (other-line f x nq nr), w .short x));
+              by-line (λ x. length (lineOf (after lines sixteen f) x) ≤ 128) q r (omega (arith, new-long lines sixteen f, f .room)) (omega (arith, old-long lines sixteen f, w .short r)) (λ x nq nr. omega (arith, ap length (other-line lines sixteen f x nq nr), w .short x));
           idle =
-              by-line f (λ x. R ≤ x → length (lineOf (after f) x) ≡ 0) (λ h. absurd (omega arith)) (λ h. omega (arith, old-long f, w .idle r h)) (λ x nq nr h. ap length (other-line f x nq nr) ∙ w .idle x h);
+              by-line (λ x. R ≤ x → length (lineOf (after lines sixteen f) x) ≡ 0) q r (λ h. absurd (omega arith)) (λ h. omega (arith, old-long lines sixteen f, w .idle r h)) (λ x nq nr h. ap length (other-line lines sixteen f x nq nr) ∙ w .idle x h);
         }
 
     -- ---- a line has room for an activity that stands on another
@@ -159,7 +131,6 @@ module _ (lines : Lines) (sixteen : length lines ≡ 16) where
         → Fits (Reassign a r i q j) lines
     reassign-fits few h k ne from named to =
         record { old = h; new = k; other = ne; from = from; named = named; to = to; room = room few h ne from }
-
     -- ---- machines
 
   holder-same : (lines lines′ : Lines) (m b : ℕ) → length lines′ ≡ length lines → ((x : ℕ) → countOf b (lineOf lines′ x) ≡ countOf b (lineOf lines x)) → holder m lines′ b ≡ holder m lines b
@@ -200,12 +171,12 @@ module _ (lines : Lines) (sixteen : length lines ≡ 16) where
   pub reassigned-others : {a r i q j : ℕ} → Fits (Reassign a r i q j) lines → (b : ℕ) → (a ≡ b → ⊥) → machineOf (applied (Reassign a r i q j) lines) b ≡ machineOf lines b
   reassigned-others {a} {r} {i} {q} {j} f b ne =
       machines-same (Reassign a r i q j) b
-      (by-line f (λ x. countOf b (lineOf (after f) x) ≡ countOf b (lineOf lines x))
-      (omega (arith, ap (countOf b) (new-line f), count-insert (lineOf lines q) j a b, hit-ne a b ne))
-      (omega (arith, ap (countOf b) (old-line f), count-remove (lineOf lines r) i b (f .from), ap (λ (x : ℕ). hit x b) (f .named), hit-ne a b ne))
-      (λ x nq nr. ap (countOf b) (other-line f x nq nr)))
+      (by-line (λ x. countOf b (lineOf (after lines sixteen f) x) ≡ countOf b (lineOf lines x)) q r
+      (omega (arith, ap (countOf b) (new-line lines sixteen f), count-insert (lineOf lines q) j a b, hit-ne a b ne))
+      (omega (arith, ap (countOf b) (old-line lines sixteen f), count-remove (lineOf lines r) i b (f .from), ap (λ (x : ℕ). hit x b) (f .named), hit-ne a b ne))
+      (λ x nq nr. ap (countOf b) (other-line lines sixteen f x nq nr)))
 
   pub reassigned-own : {a r i q j : ℕ} → Fits (Reassign a r i q j) lines → standing lines a ≤ 1 → machineOf (applied (Reassign a r i q j) lines) a ≡ q
   reassigned-own {a} {r} {i} {q} {j} f s =
       omega
-      (arith, holder-is (after f) 0 q a (omega (arith, standing-kept (Reassign a r i q j) f a)) (omega (arith, ap (countOf a) (new-line f), count-insert (lineOf lines q) j a a, hit-eq a a refl)))
+      (arith, holder-is (after lines sixteen f) 0 q a (omega (arith, standing-kept (Reassign a r i q j) f a)) (omega (arith, ap (countOf a) (new-line lines sixteen f), count-insert (lineOf lines q) j a a, hit-eq a a refl)))

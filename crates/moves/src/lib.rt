@@ -4,7 +4,7 @@ mod line;
 
 pub use line::moved;
 ghost use mathlib.Core.Path.{_≡_};
-ghost use Prim.Native.Nat.{ℕ, _+_, _≤_, _<_};
+ghost use Prim.Native.Nat.{_+_, _≤_, _<_};
 ghost use lib.ListN.{length, getD, set};
 ghost use Rattle.lines.specs.Lines.{linesIn, Fit};
 ghost use Rattle.moves.specs.Moves.{swapAt, shifted, lineOf, left, joined, applied, reversed, two, pairOf, stretches, Holds, SwapFits, ShiftFits, Fits, Reads};

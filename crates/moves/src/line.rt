@@ -1,7 +1,7 @@
 // One machine's line, lent as the part of the cells that it uses.
 ghost use mathlib.Core.Path.{_≡_};
 ghost use mathlib.Core.List.{[], _∷_, _++_};
-ghost use Prim.Native.Nat.{ℕ, _+_, _-_, _≤_, _<_};
+ghost use Prim.Native.Nat.{_+_, _-_, _≤_, _<_};
 ghost use lib.ListN.{length, getD, take};
 ghost use Rattle.moves.specs.Moves.{swapAt, shifted, removeAt, insertAt};
 

@@ -42,8 +42,7 @@ returns-2 c =
 returns-3 : tie.Need-returns-3
 returns-3 c =
     let g = c .before .before .before .before .before .before .before .before .before .before .before .made3 .given in
-    let j = c .before .before .join in
-    (
+    let j = c .before .before .join in (
       rw (g .1) (j .ensures .0 ∙ ap (λ (l : Lines). joined l (g .0 .1 .1 .1 .0) (g .0 .1 .1 .1 .1 .0) (g .0 .0)) (c .before .before .before .before .before .before .before .leave .ensures .0)),
       j .ensures .1 .fit,
     )

@@ -1,5 +1,5 @@
 -- `moves::join` meets its contract. Assumes nothing.
-use Prim.Native.Nat.{_+_, _-_, _*_}
+use Prim.Native.Nat.{_+_, _*_}
 use mathlib.Core.Path.{refl, _∙_}
 use native.Mathlib.Omega.{arith}
 use borrow.Author.Needs.{needs}
@@ -11,7 +11,7 @@ use Rattle.moves.proofs.join.Tie as tie
 add-len : tie.Need-add-len
 add-len c =
     let s = c .before .before in
-    let l = line-long (s .pre .0) (s .args .machine) (s .pre .1) in
+    let l = line-long (s .args .cells .now) (s .args .lens .now) (s .args .machine) in
     let f = s .pre .0 .fit (s .args .machine) in
     let r = s .pre .0 .roomy in
     omega (arith, s .pre)
@@ -19,7 +19,7 @@ add-len c =
 add-end : tie.Need-add-end
 add-end c =
     let s = c .before .before in
-    let l = line-long (s .pre .0) (s .args .machine) (s .pre .1) in
+    let l = line-long (s .args .cells .now) (s .args .lens .now) (s .args .machine) in
     let f = s .pre .0 .fit (s .args .machine) in
     let r = s .pre .0 .roomy in
     omega (arith, s .pre)
@@ -27,7 +27,7 @@ add-end c =
 part-put-in-end : tie.Need-part-put-in-end
 part-put-in-end c =
     let s = c .before .before in
-    let l = line-long (s .pre .0) (s .args .machine) (s .pre .1) in
+    let l = line-long (s .args .cells .now) (s .args .lens .now) (s .args .machine) in
     let f = s .pre .0 .fit (s .args .machine) in
     let r = s .pre .0 .roomy in
     omega (arith, s .pre)
@@ -37,7 +37,7 @@ put-in-requires c κs =
     let s = c .before .before .before in
     let m = s .args .machine in
     let f = s .pre .0 .fit m in
-    let l = line-long (s .pre .0) m (s .pre .1) in
+    let l = line-long (s .args .cells .now) (s .args .lens .now) m in
     let p = part-long (s .pre .0) m (s .pre .1) (getD (s .args .lens .now) m 0 + 1) (128 * m + (getD (s .args .lens .now) m 0 + 1)) refl (omega (arith, s .pre)) in
     omega (arith, s .pre)
 
@@ -46,8 +46,7 @@ returns c =
     let s = c .before .before .before .before .before .before in
     let m = s .args .machine in
     let f = s .pre .0 .fit m in
-    let l = line-long (s .pre .0) m (s .pre .1) in
-    (
+    let l = line-long (s .args .cells .now) (s .args .lens .now) m in (
       joined-put (s .pre .0) m (s .pre .1) (s .args .at) (s .args .a) _ (128 * m + (getD (s .args .lens .now) m 0 + 1)) refl (omega (arith, s .pre)) (c .before .before .put-in .ensures),
       record {
         roomy = still-roomy (s .pre .0) m (s .pre .1) (128 * m + (getD (s .args .lens .now) m 0 + 1)) (c .before .before .put-in .last .0) (omega arith) (omega (arith, s .pre)) (c .before .before .put-in .kept .0);

@@ -11,7 +11,7 @@ use Rattle.moves.proofs.leave.Tie as tie
 add-end : tie.Need-add-end
 add-end c =
     let s = c .before .before in
-    let l = line-long (s .pre .0) (s .args .machine) (s .pre .1) in
+    let l = line-long (s .args .cells .now) (s .args .lens .now) (s .args .machine) in
     let f = s .pre .0 .fit (s .args .machine) in
     let r = s .pre .0 .roomy in
     omega (arith, s .pre)
@@ -19,7 +19,7 @@ add-end c =
 part-take-out-end : tie.Need-part-take-out-end
 part-take-out-end c =
     let s = c .before .before in
-    let l = line-long (s .pre .0) (s .args .machine) (s .pre .1) in
+    let l = line-long (s .args .cells .now) (s .args .lens .now) (s .args .machine) in
     let f = s .pre .0 .fit (s .args .machine) in
     let r = s .pre .0 .roomy in
     omega (arith, s .pre)
@@ -27,7 +27,7 @@ part-take-out-end c =
 sub-lens : tie.Need-sub-lens
 sub-lens c =
     let s = c .before .before .before .before .before .before in
-    let l = line-long (s .pre .0) (s .args .machine) (s .pre .1) in
+    let l = line-long (s .args .cells .now) (s .args .lens .now) (s .args .machine) in
     let f = s .pre .0 .fit (s .args .machine) in
     let r = s .pre .0 .roomy in
     omega (arith, s .pre)
@@ -37,7 +37,7 @@ take-out-requires c κs =
     let s = c .before .before .before in
     let m = s .args .machine in
     let f = s .pre .0 .fit m in
-    let l = line-long (s .pre .0) m (s .pre .1) in
+    let l = line-long (s .args .cells .now) (s .args .lens .now) m in
     let p = part-long (s .pre .0) m (s .pre .1) (getD (s .args .lens .now) m 0) (128 * m + (getD (s .args .lens .now) m 0)) refl (omega (arith, s .pre)) in
     omega (arith, s .pre)
 
@@ -46,8 +46,7 @@ returns c =
     let s = c .before .before .before .before .before .before in
     let m = s .args .machine in
     let f = s .pre .0 .fit m in
-    let l = line-long (s .pre .0) m (s .pre .1) in
-    (
+    let l = line-long (s .args .cells .now) (s .args .lens .now) m in (
       left-put (s .pre .0) m (s .pre .1) (s .args .at) _ (128 * m + getD (s .args .lens .now) m 0) refl (s .pre .2) (c .before .before .take-out .ensures),
       record {
         roomy = still-roomy (s .pre .0) m (s .pre .1) (128 * m + getD (s .args .lens .now) m 0) (c .before .before .take-out .last .0) (omega arith) (omega (arith, s .pre)) (c .before .before .take-out .kept .0);

@@ -1,9 +1,6 @@
 -- `moves::pair` meets its contract. Assumes nothing.
-use Prim.Native.Nat.{_+_}
-use mathlib.Core.Path.{_≡_, sym, ap, _∙_}
 use native.Mathlib.Numerals.{add-one}
 use native.Mathlib.Omega.{arith}
-use Rattle.moves.specs.Moves.{pairOf, stretches, Reads}
 use borrow.Author.Needs.{needs}
 use Rattle.moves.proofs.pair.Statement.{statement}
 use Rattle.moves.proofs.pair.Tie as tie
@@ -28,12 +25,10 @@ two-at-requires-2 c κs =
 
 returns : tie.Need-returns
 returns c =
-    let s = c .before .before .before .before .before in
     rw (c .before .before .made .given .1, ← add-one (c .before .before .made .given .0 .1 .0)) (c .two-at .ensures)
 
 returns-2 : tie.Need-returns-2
 returns-2 c =
-    let s = c .before .before .before .before .before in
     rw (c .before .before .made2 .given .1) (c .two-at2 .ensures)
 
 returns-3 : tie.Need-returns-3

@@ -31,7 +31,7 @@ swap-requires : tie.Need-swap-requires
 swap-requires c κs =
     let s = c .before .before .before in
     let m = s .args .machine in
-    let l = line-long (s .pre .0) m (s .pre .1 .machine) in
+    let l = line-long (s .args .cells .now) (s .args .lens .now) m in
     let p = part-long (s .pre .0) m (s .pre .1 .machine) (getD (s .args .lens .now) m 0) (128 * m + getD (s .args .lens .now) m 0) refl (s .pre .0 .fit m) in
     omega (arith, s .pre .1 .next)
 
