@@ -1,7 +1,7 @@
 -- What a move does to the lines, and how it is undone. Assumes nothing.
 use mathlib.Core.Path.{_≡_, sym, ap, _∙_}
 use mathlib.Core.List.{List, []}
-use Prim.Native.Nat.{ℕ, suc, _≤_, _<_}
+use Prim.Native.Nat.{ℕ, suc, _+_, _≤_, _<_}
 use native.Mathlib.Omega.{arith}
 use lib.ListN.{length, getD, set, length-set}
 use lib.Seq.{getD-set-same, getD-set-other, set-set, set-getD}
@@ -9,7 +9,7 @@ use Rattle.lines.specs.Lines.{Lines}
 use Rattle.moves.specs.declared.Move.{Move}
 use Rattle.moves.specs.declared.Move.the-variants.{Swap, Shift, Reassign}
 use Rattle.moves.specs.Moves.{swapAt, removeAt, insertAt, shifted, lineOf, left, joined, applied, reversed, ReassignFits, Fits}
-use Rattle.moves.proofs.LineLaws.{length-remove, length-insert, length-shifted, length-swapped, put-back, take-back, insert-at, swap-twice, shift-back}
+use Rattle.moves.proofs.LineLaws.{length-remove, length-insert, length-shifted, length-swapped, put-back, take-back, insert-at, swap-shifted, swap-twice, shift-back}
 
 -- there are as many lines as before
 pub as-many : (made : Move) (lines : Lines) → length (applied made lines) ≡ length lines
@@ -32,6 +32,21 @@ module _ (lines : Lines) (sixteen : length lines ≡ 16) where
       → set (set lines m (f (lineOf lines m))) m (g (lineOf (set lines m (f (lineOf lines m))) m)) ≡ lines
   set-back m f g h e =
       rw (getD-set-same lines m (f (lineOf lines m)) [] (omega arith), set-set lines m (f (lineOf lines m)) (g (f (lineOf lines m))), e) (set-getD lines m [])
+
+  -- ---- the lines after a block move: its own is shifted, as `moved` reads it, and the others stay
+
+  pub swap-line : {m i : ℕ} → Fits (Swap m i) lines → lineOf (applied (Swap m i) lines) m ≡ shifted (lineOf lines m) i (i + 1)
+  swap-line {m} {i} f =
+      getD-set-same lines m (swapAt (lineOf lines m) i) [] (omega (arith, f .machine)) ∙ swap-shifted (lineOf lines m) i (f .next)
+
+  pub shift-line : {m i j : ℕ} → Fits (Shift m i j) lines → lineOf (applied (Shift m i j) lines) m ≡ shifted (lineOf lines m) i j
+  shift-line {m} {i} {j} f = getD-set-same lines m (shifted (lineOf lines m) i j) [] (omega (arith, f .machine))
+
+  pub swap-others : (m i x : ℕ) → (x ≡ m → ⊥) → lineOf (applied (Swap m i) lines) x ≡ lineOf lines x
+  swap-others m i x ne = getD-set-other lines m x (swapAt (lineOf lines m) i) [] ne
+
+  pub shift-others : (m i j x : ℕ) → (x ≡ m → ⊥) → lineOf (applied (Shift m i j) lines) x ≡ lineOf lines x
+  shift-others m i j x ne = getD-set-other lines m x (shifted (lineOf lines m) i j) [] ne
 
   -- ---- the lines after a reassignment
 
@@ -102,7 +117,7 @@ module _ (lines : Lines) (sixteen : length lines ≡ 16) where
       }
   reversed-fits (Shift m i j) short f =
       let e : length (lineOf (applied (Shift m i j) lines) m) ≡ length (lineOf lines m) =
-      ap length (getD-set-same lines m (shifted (lineOf lines m) i j) [] (omega (arith, f .machine))) ∙ length-shifted (lineOf lines m) i j (f .from) in
+      ap length (shift-line f) ∙ length-shifted (lineOf lines m) i j (f .from) in
       record { machine = f .machine; from = omega (arith, e, f .to); to = omega (arith, e, f .from) }
   reversed-fits (Reassign a r i q j) short f =
       record {

@@ -21,7 +21,7 @@ two-at-requires-2 : tie.Need-two-at-requires-2
 two-at-requires-2 c κs =
     let s = c .before .before .before .before in
     let r = rw (c .before .made2 .given .1) at (s .pre .1) in
-    (s .pre .0, r .0, r .1, r .2)
+    (s .pre .0, r .0, r .1, omega (arith, r .1, r .2))
 
 returns : tie.Need-returns
 returns c =

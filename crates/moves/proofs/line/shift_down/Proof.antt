@@ -29,6 +29,11 @@ loop-again c =
     let k = c .before .before .loop .k in
     (search needs, search needs, search needs, next-down (c .before .before .loop .line) (s .args .line .now) (s .args .from) _ refl (omega arith) (i .2) k (k - 1) (omega arith) (omega arith) (i .3))
 
+returns : tie.Need-returns Inv-loop μ-loop
+returns c =
+    let s = c .before .before .before .args in
+    c .before .loop .inv .3 ∙ ap (shifted (s .line .now) (s .from)) (omega arith)
+
 pub shift-down-spec : {M : Type 1} → statement M
 shift-down-spec =
     tie.close
@@ -48,4 +53,4 @@ shift-down-spec =
     (λ c. search needs)
     (λ c. search needs)
     (λ c. search needs)
-    (λ c. let s = c .before .before .before .args in c .before .loop .inv .3 ∙ ap (shifted (s .line .now) (s .from)) (omega arith)))
+    returns)

@@ -1,5 +1,8 @@
 -- `moves::line::swap` meets its contract. Assumes nothing.
-use native.Mathlib.Numerals.{add-one}
+use Prim.Native.Nat.{ℕ}
+use mathlib.Core.Path.{ap}
+use native.Mathlib.Omega.{arith}
+use lib.ListN.{getD, set}
 use Rattle.moves.specs.Moves.{swapAt}
 use borrow.Author.Needs.{needs}
 use Rattle.moves.proofs.line.swap.Statement.{statement}
@@ -7,7 +10,9 @@ use Rattle.moves.proofs.line.swap.Tie as tie
 
 returns : tie.Need-returns
 unfolding swapAt
-returns c = rw add-one
+returns c =
+    let s = c .before .before .args in
+    ap (λ (next : ℕ). set (set (s .line .now) (s .at) (getD (s .line .now) next 0)) next (getD (s .line .now) (s .at) 0)) (omega arith)
 
 pub swap-spec : {M : Type 1} → statement M
 swap-spec =
