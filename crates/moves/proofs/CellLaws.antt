@@ -167,17 +167,17 @@ module _ {cells lens : List ℕ} (held : Holds cells lens) (m : ℕ) (h : m < 16
       ∙ ap (λ (l : List ℕ). set (linesIn cells lens) m l) (take-all (getD lens m 0) out (omega arith) ∙ is)
 
   -- one taken out, and left behind the others
-  pub left-put : (i : ℕ) (out : List ℕ) (to : ℕ) → to ≡ 128 * m + getD lens m 0 → i < length (lineOf (linesIn cells lens) m)
+  pub left-put : (i : ℕ) (out : List ℕ) (to len : ℕ) → to ≡ 128 * m + getD lens m 0 → len ≡ getD lens m 0 - 1 → i < length (lineOf (linesIn cells lens) m)
       → out ≡ removeAt (take (to - 128 * m) (drop (128 * m) cells)) i ++ (getD (take (to - 128 * m) (drop (128 * m) cells)) i 0 ∷ [])
-      → linesIn (take (128 * m) cells ++ (out ++ drop (to - 128 * m) (drop (128 * m) cells))) (set lens m (getD lens m 0 - 1)) ≡ left (linesIn cells lens) m i
-  left-put i out to e b o =
+      → linesIn (take (128 * m) cells ++ (out ++ drop (to - 128 * m) (drop (128 * m) cells))) (set lens m len) ≡ left (linesIn cells lens) m i
+  left-put i out to len e z b o =
       let l = lineOf (linesIn cells lens) m in
       let is : out ≡ removeAt l i ++ (getD l i 0 ∷ []) = o ∙ ap (λ (p : List ℕ). removeAt p i ++ (getD p i 0 ∷ [])) (part-is to e) in
-      let short : length (removeAt l i) ≡ getD lens m 0 - 1 = omega (arith, length-remove l i b, line-long cells lens m) in
+      let short : length (removeAt l i) ≡ len = omega (arith, length-remove l i b, line-long cells lens m) in
       let long : length out ≡ getD lens m 0 =
       omega (arith, ap length is, length-append (removeAt l i) (getD l i 0 ∷ []), length-remove l i b, line-long cells lens m) in
-      put (getD lens m 0) to (getD lens m 0 - 1) out e (fit m) long (omega arith)
-      ∙ ap (λ (l : List ℕ). set (linesIn cells lens) m l) (ap (take (getD lens m 0 - 1)) is ∙ take-at (removeAt l i) (getD l i 0 ∷ []) (getD lens m 0 - 1) short)
+      put (getD lens m 0) to len out e (fit m) long (omega arith)
+      ∙ ap (λ (l : List ℕ). set (linesIn cells lens) m l) (ap (take len) is ∙ take-at (removeAt l i) (getD l i 0 ∷ []) len short)
 
   -- one put in, with a cell more lent
   pub joined-put : (i a : ℕ) (out : List ℕ) (to : ℕ) → to ≡ 128 * m + (getD lens m 0 + 1) → getD lens m 0 < 128

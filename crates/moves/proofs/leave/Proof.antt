@@ -47,7 +47,7 @@ returns c =
     let m = s .args .machine in
     let f = s .pre .0 .fit m in
     let l = line-long (s .args .cells .now) (s .args .lens .now) m in (
-      left-put (s .pre .0) m (s .pre .1) (s .args .at) _ (128 * m + getD (s .args .lens .now) m 0) refl (s .pre .2) (c .before .before .take-out .ensures),
+      left-put (s .pre .0) m (s .pre .1) (s .args .at) _ (128 * m + getD (s .args .lens .now) m 0) _ refl (omega arith) (s .pre .2) (c .before .before .take-out .ensures),
       record {
         roomy = still-roomy (s .pre .0) m (s .pre .1) (128 * m + getD (s .args .lens .now) m 0) (c .before .before .take-out .last .0) (omega arith) (omega (arith, s .pre)) (c .before .before .take-out .kept .0);
         sixteen = length-set (s .args .lens .now) m (getD (s .args .lens .now) m 0 - 1) ∙ s .pre .0 .sixteen;
