@@ -1,0 +1,98 @@
+// What one search step finds out about timed lines: the critical path, and the tail behind each activity.
+mod following;
+
+pub use following::tails;
+ghost use mathlib.Core.Path.{_≡_};
+ghost use Prim.Native.Nat.{ℕ, _+_, _^_, _<_, _≤_};
+ghost use lib.Dec.{eqb};
+ghost use lib.ListN.{length, getD, take, drop};
+ghost use Rattle.graph.specs.Counting.{Below};
+ghost use Rattle.graph.specs.Links.{linked, linkOf};
+ghost use Rattle.graph.specs.declared.Link.the-variants.{To};
+ghost use Rattle.plan.specs.Problem.{Problem};
+ghost use Rattle.tables.specs.Tabled.{Tabled, taskPred};
+ghost use Rattle.lines.specs.Lines.{Lines};
+ghost use Rattle.path.specs.Placing.{placed};
+ghost use Rattle.path.specs.Path.{lastToEnd, orElse, meeting, firstMeeting, criticalPath};
+ghost use Rattle.path.specs.Walking.{Backed, Walkable, Walked};
+use graph::Link;
+
+// The activity with the greatest end, the latest in the order among equals.
+fn last_to_end(order: &[usize], ends: &[u64]) -> usize
+    requires { ⌜ (0 < length (now order)) × Below (length (now ends)) (now order) ⌝ }
+    ensures { λ r. ⌜ lastToEnd (now (order .entry)) (now (ends .entry)) ≡ To r ⌝ }
+{
+    let mut last = order[0];
+    let mut i = 1;
+    while i < order.len() {
+        let a = order[i];
+        i += 1;
+        if ends[last] <= ends[a] {
+            last = a;
+        }
+    }
+    last
+}
+
+// The linked activity, if a way after its end is this start.
+fn meeting(link: Link, ends: &[u64], way: u64, start: u64) -> Link
+    requires { ⌜ Below (length (now ends)) (linked link) × ((b : ℕ) → getD (now ends) b 0 < 2 ^ 62) × (way < 2 ^ 32) ⌝ }
+    ensures { λ r. ⌜ r ≡ meeting (λ b. eqb (getD (now (ends .entry)) b 0 + way) start) link ⌝ }
+{
+    let Link::To(b) = link else {
+        return Link::Nothing;
+    };
+    if ends[b] + way == start {
+        return Link::To(b);
+    }
+    Link::Nothing
+}
+
+// The first listed activity that ends at this start.
+fn first_meeting(named: &[usize], ends: &[u64], start: u64) -> Link
+    requires { ⌜ Below (length (now ends)) (now named) ⌝ }
+    ensures { λ r. ⌜ r ≡ firstMeeting (λ b. eqb (getD (now (ends .entry)) b 0) start) (now (named .entry)) ⌝ }
+{
+    let mut i = 0;
+    while i < named.len() {
+        let b = named[i];
+        if ends[b] == start {
+            return Link::To(b);
+        }
+        i += 1;
+    }
+    Link::Nothing
+}
+
+// Where the path goes back to from an activity that its line does not hold back: the step before it, if a way after its end is this start,
+// else the first listed predecessor that ends there.
+fn back_by_plan(table: &[usize], ends: &[u64], a: usize, way: u64, start: u64) -> Link
+    requires { ⌜ Backed (now table) (now ends) a × ((b : ℕ) → getD (now ends) b 0 < 2 ^ 62) × (way < 2 ^ 32) ⌝ }
+    ensures { λ r. ⌜ ((p : Problem) → Tabled p (now (table .entry)) → a < p .n → p .n ≤ 128 → r ≡ orElse (meeting (λ b. eqb (getD (now (ends .entry)) b 0 + way) start) (taskPred p a)) (firstMeeting (λ b. eqb (getD (now (ends .entry)) b 0) start) (p .predecessors a))) ⌝ }
+{
+    let Link::To(b) = meeting(tables::before_of(table, a), ends, way, start) else {
+        return first_meeting(tables::named_by(table, a), ends, start);
+    };
+    Link::To(b)
+}
+
+// Where the path goes back to: the line predecessor if it ends at this start, else what task order and predecessors give. `way` is the
+// transport from the machine of the step before.
+fn back_of(
+    table: &[usize],
+    before: &[usize],
+    starts: &[u64],
+    ends: &[u64],
+    a: usize,
+    way: u64,
+) -> Link
+    requires { ⌜ Backed (now table) (now ends) a × ((b : ℕ) → getD (now ends) b 0 < 2 ^ 62) × (way < 2 ^ 32) ⌝ }
+    requires { ⌜ (a < length (now starts)) × (length (now before) ≡ length (now ends)) × (a < length (now before)) ⌝ }
+    ensures { λ r. ⌜ ((p : Problem) → Tabled p (now (table .entry)) → a < p .n → p .n ≤ 128 → r ≡ orElse (meeting (λ b. eqb (getD (now (ends .entry)) b 0 + 0) (getD (now (starts .entry)) a 0)) (linkOf (now (before .entry)) a)) (orElse (meeting (λ b. eqb (getD (now (ends .entry)) b 0 + way) (getD (now (starts .entry)) a 0)) (taskPred p a)) (firstMeeting (λ b. eqb (getD (now (ends .entry)) b 0) (getD (now (starts .entry)) a 0)) (p .predecessors a)))) ⌝ }
+{
+    let start = starts[a];
+    let Link::To(b) = meeting(graph::link_of(before, a), ends, 0, start) else {
+        return back_by_plan(table, ends, a, way, start);
+    };
+    Link::To(b)
+}
