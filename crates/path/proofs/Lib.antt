@@ -1,3 +1,5 @@
 pub mod LastLaws
 pub mod MeetingLaws
 pub mod TailLaws
+pub mod NeighbourLaws
+pub mod SettingLaws

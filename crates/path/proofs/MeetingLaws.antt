@@ -34,3 +34,10 @@ module _ {test : ℕ → Bool} {named : List ℕ} {i : ℕ} (k : Passing test na
 
     pub passed : test (getD named i 0) ≡ false → Passing test named (i + 1)
     passed e = record { within = omega arith; left = rw e at next }
+
+-- Two links, of which the first is asked first.
+pub second : (first : Link) {other r : Link} → first ≡ Nothing → r ≡ other → r ≡ orElse first other
+second first e g = rw e g
+
+pub first-to : (first other : Link) (b : ℕ) → first ≡ To b → To b ≡ orElse first other
+first-to first other b e = rw e

@@ -26,3 +26,10 @@ module _ (f : ℕ → ℕ) {link : Link} (m : ℕ) where
   pub no-greater-link : (x : ℕ) → link ≡ To x → f x ≤ m → m ≡ greatest f (linked link) m
   unfolding greatest
   no-greater-link x e h = let k : max m (f x) ≡ m = omega arith in rw (e, k)
+
+-- Of a link, then of another, then of a list.
+pub greatest-three : (f : ℕ → ℕ) (line task : Link) (waiting : List ℕ) {x y z : ℕ} → x ≡ greatest f (linked line) 0 → y ≡ greatest f (linked task) x
+    → z ≡ greatest f waiting y → z ≡ greatest f (linked line ++ (linked task ++ waiting)) 0
+greatest-three f line task waiting ex ey ez =
+    ez ∙ ap (greatest f waiting) (ey ∙ ap (greatest f (linked task)) ex)
+    ∙ sym (greatest-append f (linked line) (linked task ++ waiting) 0 ∙ greatest-append f (linked task) waiting (greatest f (linked line) 0))

@@ -53,6 +53,11 @@ backOf p lines s a =
     orElse (meeting (endsAt s a) (linePred lines a))
     (orElse (meeting (arrivesAt p lines s a) (taskPred p a)) (firstMeeting (endsAt s a) (p .predecessors a)))
 
+-- The machine that an activity comes from: that of the step before it; its own where there is none.
+abbrev pub machineBefore : (machines : List ℕ) → (a : ℕ) → (before : Link) → ℕ
+machineBefore machines a (To b) = getD machines b 0
+machineBefore machines a Nothing = getD machines a 0
+
 -- ---- the path
 
 -- What is walked back from an activity, before the path found so far; at most so many.

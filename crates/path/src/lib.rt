@@ -11,9 +11,10 @@ ghost use Rattle.graph.specs.Links.{linked, linkOf};
 ghost use Rattle.graph.specs.declared.Link.the-variants.{To};
 ghost use Rattle.plan.specs.Problem.{Problem};
 ghost use Rattle.tables.specs.Tabled.{Tabled, taskPred};
+ghost use Rattle.tables.specs.Found.{Held};
 ghost use Rattle.lines.specs.Lines.{Lines};
 ghost use Rattle.path.specs.Placing.{placed};
-ghost use Rattle.path.specs.Path.{lastToEnd, orElse, meeting, firstMeeting, criticalPath};
+ghost use Rattle.path.specs.Path.{lastToEnd, orElse, meeting, firstMeeting, machineBefore, criticalPath};
 ghost use Rattle.path.specs.Walking.{Backed, Walkable, Walked};
 use graph::Link;
 
@@ -95,4 +96,47 @@ fn back_of(
         return back_by_plan(table, ends, a, way, start);
     };
     Link::To(b)
+}
+
+// The machine that an activity comes from: that of the step before it, its own where there is none.
+fn machine_before(table: &[usize], machines: &[usize], a: usize) -> usize
+    requires { ⌜ Held (now table) a × (a < length (now machines)) ⌝ }
+    ensures { λ r. ⌜ ((p : Problem) → Tabled p (now (table .entry)) → a < p .n → r ≡ machineBefore (now (machines .entry)) a (taskPred p a)) ⌝ }
+{
+    let Link::To(b) = tables::before_of(table, a) else {
+        return machines[a];
+    };
+    machines[b]
+}
+
+// Writes the critical path at the end of `path`, the first activity first, and answers where it begins. `before` links each activity to the
+// one before it on its line, `machines` has the machine of each, `ways` the transport from machine to machine.
+pub fn critical_path(
+    table: &[usize],
+    before: &[usize],
+    machines: &[usize],
+    ways: [[u32; 16]; 16],
+    order: &[usize],
+    starts: &[u64],
+    ends: &[u64],
+    path: &mut [usize],
+) -> usize
+    requires { ⌜ Walked (now table) (now before) (now machines) ways (placed (now order) (now starts) (now ends)) × (length (now path) ≡ length (now order)) ⌝ }
+    ensures { λ r. ⌜ ((p : Problem) (lines : Lines) → Walkable p lines (now (table .entry)) (now (before .entry)) (now (machines .entry)) ways (placed (now (order .entry)) (now (starts .entry)) (now (ends .entry))) → drop r (now (path .exit)) ≡ criticalPath p lines (placed (now (order .entry)) (now (starts .entry)) (now (ends .entry)))) ⌝ }
+    ensures { λ r. ⌜ (r < length (now (path .entry))) × (take r (now (path .exit)) ≡ take r (now (path .entry))) ⌝ }
+{
+    let mut a = last_to_end(order, ends);
+    let mut at = path.len();
+    let first = loop {
+        at -= 1;
+        path[at] = a;
+        let from = machine_before(table, machines, a);
+        let to = machines[a];
+        let way = ways[from][to] as u64;
+        let Link::To(b) = back_of(table, before, starts, ends, a, way) else {
+            break at;
+        };
+        a = b;
+    };
+    first
 }

@@ -1,54 +1,60 @@
+-- `path::back_by_plan` meets its contract: the step before if it meets the start, else the first listed that does.
+use Prim.Native.Nat.{ℕ, _+_}
+use mathlib.Core.Path.{sym, ap, _∙_}
+use mathlib.Core.List.{List}
+use mathlib.Core.Bool.{Bool}
 use borrow.Author.Needs.{needs}
+use denote.Ref.{now}
+use lib.Dec.{eqb}
+use lib.ListN.{getD}
+use Rattle.graph.specs.declared.Link.{Link}
+use Rattle.tables.specs.Tabled.{taskPred}
+use Rattle.path.specs.Path.{meeting, firstMeeting}
+use Rattle.path.proofs.NeighbourLaws.{pred-below}
+use Rattle.path.proofs.MeetingLaws.{second, first-to}
 use Rattle.path.proofs.back_by_plan.Statement.{statement}
 use Rattle.path.proofs.back_by_plan.Tie as tie
-use Rattle.path.proofs.back_by_plan.Reads as reads
-use Rattle.path.proofs.back_by_plan.Lts as lts
-use Rattle.path.proofs.first_meeting.Reads as first-meeting-reads
-use Rattle.path.proofs.meeting.Reads as meeting-reads
-use Rattle.tables.proofs.before_of.Reads as before-of-reads
-use Rattle.tables.proofs.named_by.Reads as named-by-reads
 
--- src/lib.rt:73:31
-before-of-requires : tie.Need-before-of-requires
-before-of-requires c κs = search needs
-
--- src/lib.rt:73:23
 meeting-requires : tie.Need-meeting-requires
-meeting-requires c κs = ?
+meeting-requires c κs =
+    let b = c .before .before .before in
+    let k = b .pre .0 .held in
+    (rw (c .before-of .ensures (k .problem) (k .tabled) (k .known), b .pre .0 .ended) (pred-below (k .problem) (k .problem .n) (b .args .a) (k .known)), b .pre .1, b .pre .2)
 
--- src/lib.rt:73:18
-enum-known-b : tie.Need-enum-known-b
-enum-known-b c = search needs
-
--- src/lib.rt:74:30
-enum-told : tie.Need-enum-told
-enum-told c = search needs
-
--- src/lib.rt:74:30
-named-by-requires : tie.Need-named-by-requires
-named-by-requires c κs = search needs
-
--- src/lib.rt:74:9
 first-meeting-requires : tie.Need-first-meeting-requires
-first-meeting-requires c κs = ?
+first-meeting-requires c κs =
+    let b = c .before .before .before .before .before .before .before in
+    let k = b .pre .0 .held in
+    rw (c .named-by .ensures (k .problem) (k .tabled) (k .known) (k .few), b .pre .0 .ended) (b .pre .0 .named)
 
--- src/lib.rt:74:9
 returns : tie.Need-returns
-returns c = ?
+returns c =
+    let a = c .before .before .before .before .before .before .before .before .args in
+    let late : ℕ → Bool = λ x. eqb (getD (now (a .ends)) x 0 + a .way) (a .start) in
+    let there : ℕ → Bool = λ x. eqb (getD (now (a .ends)) x 0) (a .start) in
+    λ p t h f.
+    second (meeting late (taskPred p (a .a)))
+    (ap (meeting late) (sym (c .before .before .before .before .before .before-of .ensures p t h)) ∙ sym (c .before .before .before .before .meeting .ensures) ∙ c .before .before .enum-told .given .1)
+    (c .first-meeting .ensures ∙ ap (firstMeeting there) (c .before .named-by .ensures p t h f))
 
--- src/lib.rt:69:1
 returns-2 : tie.Need-returns-2
-returns-2 c = ?
+returns-2 c =
+    let a = c .before .before .before .before .before .before .before .args in
+    let late : ℕ → Bool = λ x. eqb (getD (now (a .ends)) x 0 + a .way) (a .start) in
+    let there : ℕ → Bool = λ x. eqb (getD (now (a .ends)) x 0) (a .start) in
+    λ p t h f.
+    first-to (meeting late (taskPred p (a .a))) (firstMeeting there (p .predecessors (a .a))) (c .before .b .given .0 .0)
+    (ap (meeting late) (sym (c .before .before .before .before .before-of .ensures p t h)) ∙ sym (c .before .before .before .meeting .ensures) ∙ c .before .b .given .1)
 
 pub back-by-plan-spec : {M : Type 1} → statement M
 back-by-plan-spec =
     tie.close
     (tie.spec
-    before-of-requires
+    (λ c κs. search needs)
     meeting-requires
-    enum-known-b
-    enum-told
-    named-by-requires
+    (λ c. search needs)
+    (λ c. search needs)
+    (λ c κs. search needs)
     first-meeting-requires
     returns
     returns-2)

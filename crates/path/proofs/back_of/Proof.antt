@@ -1,58 +1,53 @@
+-- `path::back_of` meets its contract: the line predecessor if it ends at this start, else what the plan gives.
+use Prim.Native.Nat.{ℕ, _+_}
+use mathlib.Core.Path.{sym, ap, _∙_}
+use mathlib.Core.Bool.{Bool}
 use borrow.Author.Needs.{needs}
+use denote.Ref.{now}
+use lib.Dec.{eqb}
+use lib.ListN.{getD}
+use Rattle.graph.specs.Links.{linkOf}
+use Rattle.graph.proofs.LinkedLaws.{link-below}
+use Rattle.tables.specs.Tabled.{taskPred}
+use Rattle.path.specs.Path.{orElse, meeting, firstMeeting}
+use Rattle.path.proofs.MeetingLaws.{second, first-to}
 use Rattle.path.proofs.back_of.Statement.{statement}
 use Rattle.path.proofs.back_of.Tie as tie
-use Rattle.path.proofs.back_of.Reads as reads
-use Rattle.path.proofs.back_of.Lts as lts
-use Rattle.graph.proofs.link_of.Reads as link-of-reads
-use Rattle.path.proofs.back_by_plan.Reads as back-by-plan-reads
-use Rattle.path.proofs.meeting.Reads as meeting-reads
 
--- src/lib.rt:93:17
-mul-start : tie.Need-mul-start
-mul-start c = search needs
-
--- src/lib.rt:93:17
-shared-slice-read-start : tie.Need-shared-slice-read-start
-shared-slice-read-start c = search needs
-
--- src/lib.rt:94:31
-link-of-requires : tie.Need-link-of-requires
-link-of-requires c κs = search needs
-
--- src/lib.rt:94:23
 meeting-requires : tie.Need-meeting-requires
-meeting-requires c κs = ?
+meeting-requires c κs =
+    let b = c .before .before .before .before .before .before in
+    (rw (c .link-of .ensures, ← b .pre .1 .1) (link-below (now (b .args .before)) (b .args .a)), b .pre .0 .1, search needs)
 
--- src/lib.rt:94:18
-enum-known-b : tie.Need-enum-known-b
-enum-known-b c = search needs
-
--- src/lib.rt:95:9
-enum-told : tie.Need-enum-told
-enum-told c = search needs
-
--- src/lib.rt:95:9
-back-by-plan-requires : tie.Need-back-by-plan-requires
-back-by-plan-requires c κs = search needs
-
--- src/lib.rt:95:9
 returns : tie.Need-returns
-returns c = ?
+returns c =
+    let a = c .before .before .before .before .before .before .before .before .before .before .args in
+    let there : ℕ → Bool = λ x. eqb (getD (now (a .ends)) x 0 + 0) (getD (now (a .starts)) (a .a) 0) in
+    λ p t h f.
+    second (meeting there (linkOf (now (a .before)) (a .a)))
+    (ap (meeting there) (sym (c .before .before .before .before .link-of .ensures)) ∙ sym (c .before .before .before .meeting .ensures) ∙ c .before .enum-told .given .1)
+    (c .back-by-plan .ensures p t h f)
 
--- src/lib.rt:81:1
 returns-2 : tie.Need-returns-2
-returns-2 c = ?
+returns-2 c =
+    let a = c .before .before .before .before .before .before .before .before .before .before .args in
+    let there : ℕ → Bool = λ x. eqb (getD (now (a .ends)) x 0 + 0) (getD (now (a .starts)) (a .a) 0) in
+    let late : ℕ → Bool = λ x. eqb (getD (now (a .ends)) x 0 + a .way) (getD (now (a .starts)) (a .a) 0) in
+    let met : ℕ → Bool = λ x. eqb (getD (now (a .ends)) x 0) (getD (now (a .starts)) (a .a) 0) in
+    λ p t h f.
+    first-to (meeting there (linkOf (now (a .before)) (a .a))) (orElse (meeting late (taskPred p (a .a))) (firstMeeting met (p .predecessors (a .a)))) (c .before .b .given .0 .0)
+    (ap (meeting there) (sym (c .before .before .before .before .link-of .ensures)) ∙ sym (c .before .before .before .meeting .ensures) ∙ c .before .b .given .1)
 
 pub back-of-spec : {M : Type 1} → statement M
 back-of-spec =
     tie.close
     (tie.spec
-    mul-start
-    shared-slice-read-start
-    link-of-requires
+    (λ c. search needs)
+    (λ c. search needs)
+    (λ c κs. search needs)
     meeting-requires
-    enum-known-b
-    enum-told
-    back-by-plan-requires
+    (λ c. search needs)
+    (λ c. search needs)
+    (λ c κs. search needs)
     returns
     returns-2)
