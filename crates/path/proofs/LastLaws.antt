@@ -2,7 +2,7 @@
 use Prim.Native.Nat.{ℕ, zero, suc, _+_, _≤_, _<_}
 use mathlib.Core.Path.{_≡_, refl, sym, ap, _∙_}
 use mathlib.Core.List.{List, [], _∷_}
-use mathlib.Core.Bool.{cond}
+use mathlib.Core.Bool.{Bool, true, false, cond}
 use native.Mathlib.Omega.{arith}
 use native.Mathlib.Numerals.{add-one}
 use borrow.Author.Tests.{le-leb, lt-leb}
@@ -14,6 +14,7 @@ use Rattle.graph.specs.declared.Link.{Link}
 use Rattle.graph.specs.declared.Link.the-variants.{To}
 use Rattle.graph.proofs.CountingLaws.{below-at}
 use Rattle.path.specs.Path.{lastFrom, lastToEnd}
+use Rattle.path.proofs.NeighbourLaws.{nothing-to}
 
 pub record Seeking (order ends : List ℕ) (last i : ℕ) : Type 0 where
   pub within : i ≤ length order
@@ -51,3 +52,22 @@ module _ {order ends : List ℕ} (some : 0 < length order) (below : Below (lengt
 
       pub kept : getD ends (getD order i 0) 0 < getD ends last 0 → Seeking order ends last (i + 1)
       kept l = record { within = omega arith; known = k .known; left = rw (lt-leb _ _ l) at next }
+
+-- ---- it is one of the order
+
+chosen : (n : ℕ) (t : Bool) (b a : ℕ) → b < n → a < n → cond t b a < n
+chosen n true b a h k = h
+chosen n false b a h k = k
+
+from-below : (n : ℕ) (ends : List ℕ) (a : ℕ) (order : List ℕ) → a < n → Below n order → lastFrom ends a order < n
+unfolding lastFrom Below
+from-below n ends a [] h w = h
+from-below n ends a (b ∷ order) h w =
+    from-below n ends (cond (leb (getD ends a 0) (getD ends b 0)) b a) order (chosen n (leb (getD ends a 0) (getD ends b 0)) b a (w .0) h) (w .1)
+
+pub last-below : (n : ℕ) (order ends : List ℕ) → Below n order → (r : ℕ) → lastToEnd order ends ≡ To r → r < n
+unfolding Below
+last-below n [] ends w r e = absurd (nothing-to e)
+last-below n (a ∷ order) ends w r e =
+    let z : lastFrom ends a order ≡ r = cc in
+    omega (arith, z, from-below n ends a order (w .0) (w .1))

@@ -3,3 +3,5 @@ pub mod MeetingLaws
 pub mod TailLaws
 pub mod NeighbourLaws
 pub mod SettingLaws
+pub mod BackLaws
+pub mod WalkLaws

@@ -1,10 +1,11 @@
 -- `path::following::tails` meets its contract. The loop's invariant, for whatever problem and lines are followed: setting what is left
 -- gives all tails.
-use mathlib.Core.Path.{_≡_}
+use Prim.Native.Nat.{_≤_}
+use mathlib.Core.Path.{_≡_, refl, sym, ap, _∙_}
 use native.Mathlib.Omega.{arith}
 use borrow.Author.Needs.{needs}
 use denote.Ref.{now}
-use lib.ListN.{length, length-set}
+use lib.ListN.{length, length-set, length-replicate}
 use Rattle.plan.specs.Problem.{Problem}
 use Rattle.lines.specs.Lines.{Lines}
 use Rattle.path.specs.Placing.{placed}
@@ -15,46 +16,63 @@ use Rattle.path.proofs.following.tails.Tie as tie
 
 abbrev Inv-loop : tie.InvT-loop
 Inv-loop table after order starts ends tail₀ i₀ tail i =
-    (length tail ≡ length tail₀) × ((p : Problem) (lines : Lines) → Followed p lines table after (placed order starts ends) → length tail₀ ≡ p .n → Setting p lines (placed order starts ends) tail i)
+    (i ≤ length order)
+    × (length tail ≡ length tail₀)
+    × ((p : Problem) (lines : Lines) → Followed p lines table after (placed order starts ends) → length tail₀ ≡ p .n → Setting p lines (placed order starts ends) tail i)
 
 abbrev μ-loop : tie.MeasureT-loop
 μ-loop table after order starts ends tail₀ i₀ tail i = i
 
-clear-requires : tie.Need-clear-requires Inv-loop μ-loop
-clear-requires c κs = ?
-
 loop-holds : tie.Need-loop-holds Inv-loop μ-loop
-loop-holds c = ?
-
-sub-i : tie.Need-sub-i Inv-loop μ-loop
-sub-i c = omega arith
-
-mul-a : tie.Need-mul-a Inv-loop μ-loop
-mul-a c = ?
-
-shared-slice-read-a : tie.Need-shared-slice-read-a Inv-loop μ-loop
-shared-slice-read-a c = ?
+loop-holds c =
+    let b = c .before .before .before .before .before .before .before .before .before .before in
+    let e = c .before .before .clear .ensures in
+    let m = length (now (b .args .tail)) in
+    (omega arith, refl, λ p lines w k. begin w m e (sym (ap length e ∙ length-replicate m 0) ∙ k))
 
 tail-of-requires : tie.Need-tail-of-requires Inv-loop μ-loop
-tail-of-requires c κs = ?
+tail-of-requires c κs =
+    let b = c .before .before .before .before .before .before .before .before .before .before .before .before .before .before in
+    let m = length (now (b .args .tail)) in
+    let w = b .pre .followed in
+    let k = c .before .before .before .loop .inv .2 (b .pre .problem) (b .pre .lines) w (ap length (c .before .before .before .before .before .before .clear .ensures) ∙ length-replicate m 0 ∙ b .pre .sized) in
+    (freed w k (c .before .before .loop-test .taken), addable w k)
 
 mul-tail : tie.Need-mul-tail Inv-loop μ-loop
-mul-tail c = ?
+mul-tail c =
+    let b = c .before .before .before .before .before .before .before .before .before .before .before .before .before .before .before in
+    let m = length (now (b .args .tail)) in
+    let w = b .pre .followed in
+    let k = c .before .before .before .before .loop .inv .2 (b .pre .problem) (b .pre .lines) w (ap length (c .before .before .before .before .before .before .before .clear .ensures) ∙ length-replicate m 0 ∙ b .pre .sized) in
+    omega (arith, known w k (c .before .before .before .loop-test .taken), w .few)
 
 slice-write-tail : tie.Need-slice-write-tail Inv-loop μ-loop
-slice-write-tail c = ?
-
-loop-less : tie.Need-loop-less Inv-loop μ-loop
-loop-less c = omega arith
+slice-write-tail c =
+    let b = c .before .before .before .before .before .before .before .before .before .before .before .before .before .before .before in
+    let m = length (now (b .args .tail)) in
+    let w = b .pre .followed in
+    let k = c .before .before .before .before .loop .inv .2 (b .pre .problem) (b .pre .lines) w (ap length (c .before .before .before .before .before .before .before .clear .ensures) ∙ length-replicate m 0 ∙ b .pre .sized) in
+    omega (arith, known w k (c .before .before .before .loop-test .taken), k .sized)
 
 loop-again : tie.Need-loop-again Inv-loop μ-loop
-loop-again c = ?
+loop-again c =
+    let l = c .before .before .before .before in
+    (omega (arith, l .loop .inv .0),
+    simp length-set (l .loop .inv .1),
+    λ p lines w k.
+    let held = l .loop .inv .2 p lines w k in
+    again w held (c .before .before .before .loop-test .taken) (c .tail-of .ensures p (w .tabled) (known w held (c .before .before .before .loop-test .taken)) (w .few) (w .linked)))
 
 same-length : tie.Need-same-length Inv-loop μ-loop
-same-length c = ?
+same-length c =
+    let b = c .before .before .before .before .before .before .before .before .before .before .before .before in
+    c .before .loop .inv .1 ∙ ap length (c .before .before .before .before .clear .ensures) ∙ length-replicate (length (now (b .args .tail))) 0
 
 returns : tie.Need-returns Inv-loop μ-loop
-returns c = ?
+returns c =
+    let b = c .before .before .before .before .before .before .before .before .before .before .before .before in
+    λ p lines w k.
+    set-all w (c .before .loop .inv .2 p lines w (ap length (c .before .before .before .before .clear .ensures) ∙ length-replicate (length (now (b .args .tail))) 0 ∙ k)) (c .loop-test .left)
 
 pub tails-spec : {M : Type 1} → statement M
 tails-spec =
@@ -62,15 +80,15 @@ tails-spec =
     (tie.spec
     Inv-loop
     μ-loop
-    clear-requires
+    (λ c κs. search needs)
     loop-holds
-    sub-i
-    mul-a
-    shared-slice-read-a
+    (λ c. omega arith)
+    (λ c. omega arith)
+    (λ c. omega arith)
     tail-of-requires
     mul-tail
     slice-write-tail
-    loop-less
+    (λ c. omega arith)
     loop-again
     same-length
     returns)
