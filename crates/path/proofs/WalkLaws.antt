@@ -89,16 +89,16 @@ module _ {p : Problem} {lines : Lines} {table before machines : List ℕ} {ways 
           (between-at (p .transport) (p .machines) (p .machines) (machineOf lines b) (machineOf lines a) (w .shown .known b k) (w .shown .machines-few) (w .shown .known a h) (w .shown .machines-few))
 
       -- The step back that the code takes is the rule's.
-      pub back-is : {r : Link}
-          → r ≡ orElse (meeting (λ b. eqb (getD (s .ends) b 0 + 0) (getD (s .starts) a 0)) (linkOf before a)) (orElse (meeting (λ b. eqb (getD (s .ends) b 0 + between ways from (getD machines a 0)) (getD (s .starts) a 0)) (taskPred p a)) (firstMeeting (λ b. eqb (getD (s .ends) b 0) (getD (s .starts) a 0)) (p .predecessors a)))
+      pub back-is : {way : ℕ} {r : Link} → way ≡ between ways from (getD machines a 0)
+          → r ≡ orElse (meeting (λ b. eqb (getD (s .ends) b 0 + 0) (getD (s .starts) a 0)) (linkOf before a)) (orElse (meeting (λ b. eqb (getD (s .ends) b 0 + way) (getD (s .starts) a 0)) (taskPred p a)) (firstMeeting (λ b. eqb (getD (s .ends) b 0) (getD (s .starts) a 0)) (p .predecessors a)))
           → r ≡ backOf p lines s a
-      back-is e =
+      back-is {way} ew e =
           let there : ℕ → Bool = λ b. eqb (getD (s .ends) b 0 + 0) (getD (s .starts) a 0) in
-          let late : ℕ → Bool = λ b. eqb (getD (s .ends) b 0 + between ways from (getD machines a 0)) (getD (s .starts) a 0) in
+          let late : ℕ → Bool = λ b. eqb (getD (s .ends) b 0 + way) (getD (s .starts) a 0) in
           let x : meeting there (linkOf before a) ≡ meeting (endsAt s a) (linePred lines a) =
               ap (meeting there) (w .shown .preds a h) ∙ meeting-same there (endsAt s a) (linePred lines a) (λ b k. ap (λ (y : ℕ). eqb y (startAt s a)) (omega arith)) in
           let y : meeting late (taskPred p a) ≡ meeting (arrivesAt p lines s a) (taskPred p a) =
-              meeting-same late (arrivesAt p lines s a) (taskPred p a) (λ b k. ap (λ (z : ℕ). eqb (getD (s .ends) b 0 + z) (startAt s a)) (way-is b k)) in
+              meeting-same late (arrivesAt p lines s a) (taskPred p a) (λ b k. ap (λ (z : ℕ). eqb (getD (s .ends) b 0 + z) (startAt s a)) (ew ∙ way-is b k)) in
           e ∙ rw (x, y)
 
 -- ---- the walk

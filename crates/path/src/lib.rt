@@ -109,6 +109,13 @@ fn machine_before(table: &[usize], machines: &[usize], a: usize) -> usize
     machines[b]
 }
 
+// A transport time in the width of starts and ends.
+fn wide(way: u32) -> u64
+    ensures { λ r. ⌜ (r ≡ way) × (r < 2 ^ 32) ⌝ }
+{
+    way as u64
+}
+
 // Writes the critical path at the end of `path`, the first activity first, and answers where it begins. `before` links each activity to the
 // one before it on its line, `machines` has the machine of each, `ways` the transport from machine to machine.
 pub fn critical_path(
@@ -132,7 +139,7 @@ pub fn critical_path(
         path[at] = a;
         let from = machine_before(table, machines, a);
         let to = machines[a];
-        let way = ways[from][to] as u64;
+        let way = wide(ways[from][to]);
         let Link::To(b) = back_of(table, before, starts, ends, a, way) else {
             break at;
         };

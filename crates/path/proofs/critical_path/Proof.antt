@@ -1,96 +1,125 @@
+-- `path::critical_path` meets its contract. The loop's invariant, for whatever problem and lines are shown: what is left to walk, before
+-- the path so far, is the whole path; the cells before it are as they were.
+use Prim.Native.Nat.{_<_, _-_}
+use mathlib.Core.Path.{_≡_, refl, sym, ap, _∙_}
+use native.Mathlib.Omega.{arith}
+use borrow.Author.Needs.{needs}
+use denote.Ref.{now}
+use lib.ListN.{length, set, length-set}
+use Rattle.plan.specs.Problem.{Problem}
+use Rattle.lines.specs.Lines.{Lines}
+use Rattle.path.specs.Placing.{placed}
+use Rattle.path.specs.Walking.{Walkable}
+use Rattle.path.proofs.WalkLaws.{Space, Walking, held, backed, own-known, from-known, back-is, begin, stops, goes, kept-below}
 use Rattle.path.proofs.critical_path.Statement.{statement}
 use Rattle.path.proofs.critical_path.Tie as tie
-use Rattle.path.proofs.critical_path.Reads as reads
-use Rattle.path.proofs.critical_path.Lts as lts
-use Rattle.path.proofs.back_of.Reads as back-of-reads
-use Rattle.path.proofs.last_to_end.Reads as last-to-end-reads
-use Rattle.path.proofs.machine_before.Reads as machine-before-reads
 
 abbrev Inv-loop : tie.InvT-loop
-Inv-loop table before machines order starts ends path₀ ways a₀ at₀ path a at = ?
+Inv-loop table before machines order starts ends path₀ ways a₀ at₀ path a at =
+    Space machines path₀ path a at
+    × ((p : Problem) (lines : Lines) (w : Walkable p lines table before machines ways (placed order starts ends)) → Walking p lines (placed order starts ends) (w .falling .rank) path a at)
 
 abbrev μ-loop : tie.MeasureT-loop
-μ-loop table before machines order starts ends path₀ ways a₀ at₀ path a at = ?
+μ-loop table before machines order starts ends path₀ ways a₀ at₀ path a at = at
 
--- src/lib.rt:128:9
 last-to-end-requires : tie.Need-last-to-end-requires Inv-loop μ-loop
-last-to-end-requires c κs = ?
+last-to-end-requires c κs =
+    let w = c .before .before .before .before .before .before .before .pre .0 .walkable in
+    (omega (arith, w .some, w .ordered), rw (w .ended) (w .activities))
 
--- src/lib.rt:130:9
 loop-holds : tie.Need-loop-holds Inv-loop μ-loop
-loop-holds c = ?
+loop-holds c =
+    let b = c .before .before .before .before .before .before .before .before in
+    let w = b .pre .0 .walkable in
+    let k = begin w (now (b .args .path)) (c .last-to-end .result) (b .pre .1) (c .last-to-end .ensures) in
+    (record { room = omega (arith, w .some, w .ordered, b .pre .1); within = omega arith; sized = refl; kept = refl; standing = omega (arith, k .known, w .shown .standing) },
+    λ p lines v. begin v (now (b .args .path)) (c .last-to-end .result) (b .pre .1) (c .last-to-end .ensures))
 
--- src/lib.rt:131:9
-sub-at : tie.Need-sub-at Inv-loop μ-loop
-sub-at c = ?
-
--- src/lib.rt:132:9
-mul-path : tie.Need-mul-path Inv-loop μ-loop
-mul-path c = ?
-
--- src/lib.rt:132:9
-slice-write-path : tie.Need-slice-write-path Inv-loop μ-loop
-slice-write-path c = ?
-
--- src/lib.rt:133:13
 machine-before-requires : tie.Need-machine-before-requires Inv-loop μ-loop
-machine-before-requires c κs = ?
+machine-before-requires c κs =
+    let b = c .before .before .before .before .before .before .before .before .before in
+    let w = b .pre .0 .walkable in
+    let l = c .loop in
+    let k = l .inv .1 (b .pre .0 .problem) (b .pre .0 .lines) w in
+    (held w (l .a) (k .known), l .inv .0 .standing)
 
--- src/lib.rt:134:18
-mul-to : tie.Need-mul-to Inv-loop μ-loop
-mul-to c = ?
+mul-wide : tie.Need-mul-wide Inv-loop μ-loop
+mul-wide c =
+    let b = c .before .before .before .before .before .before .before .before .before .before .before in
+    let w = b .pre .0 .walkable in
+    let l = c .before .before .loop in
+    let k = l .inv .1 (b .pre .0 .problem) (b .pre .0 .lines) w in
+    let h = from-known w (l .a) (k .known) (c .before .machine-before .ensures (b .pre .0 .problem) (w .shown .tabled) (k .known)) in
+    omega arith
 
--- src/lib.rt:134:18
-shared-slice-read-to : tie.Need-shared-slice-read-to Inv-loop μ-loop
-shared-slice-read-to c = ?
+mul-wide-2 : tie.Need-mul-wide-2 Inv-loop μ-loop
+mul-wide-2 c =
+    let b = c .before .before .before .before .before .before .before .before .before .before .before in
+    let w = b .pre .0 .walkable in
+    let l = c .before .before .loop in
+    let k = l .inv .1 (b .pre .0 .problem) (b .pre .0 .lines) w in
+    let h = own-known w (l .a) (k .known) in
+    omega arith
 
--- src/lib.rt:135:19
-mul-way : tie.Need-mul-way Inv-loop μ-loop
-mul-way c = ?
+index-1-wide : tie.Need-index-1-wide Inv-loop μ-loop
+index-1-wide c =
+    let b = c .before .before .before .before .before .before .before .before .before .before .before in
+    let w = b .pre .0 .walkable in
+    let l = c .before .before .loop in
+    let k = l .inv .1 (b .pre .0 .problem) (b .pre .0 .lines) w in
+    from-known w (l .a) (k .known) (c .before .machine-before .ensures (b .pre .0 .problem) (w .shown .tabled) (k .known))
 
--- src/lib.rt:135:19
-mul-way-2 : tie.Need-mul-way-2 Inv-loop μ-loop
-mul-way-2 c = ?
+index-2-wide : tie.Need-index-2-wide Inv-loop μ-loop
+index-2-wide c =
+    let b = c .before .before .before .before .before .before .before .before .before .before .before in
+    let w = b .pre .0 .walkable in
+    let l = c .before .before .loop in
+    let k = l .inv .1 (b .pre .0 .problem) (b .pre .0 .lines) w in
+    own-known w (l .a) (k .known)
 
--- src/lib.rt:135:19
-index-1-way : tie.Need-index-1-way Inv-loop μ-loop
-index-1-way c = ?
-
--- src/lib.rt:135:19
-index-2-way : tie.Need-index-2-way Inv-loop μ-loop
-index-2-way c = ?
-
--- src/lib.rt:135:19
-cast-way : tie.Need-cast-way Inv-loop μ-loop
-cast-way c = ?
-
--- src/lib.rt:136:27
 back-of-requires : tie.Need-back-of-requires Inv-loop μ-loop
-back-of-requires c κs = ?
+back-of-requires c κs =
+    let b = c .before .before .before .before .before .before .before .before .before .before .before .before .before in
+    let w = b .pre .0 .walkable in
+    let l = c .before .before .before .before .loop in
+    let k = l .inv .1 (b .pre .0 .problem) (b .pre .0 .lines) w in
+    ((backed w (l .a) (k .known), w .early, c .wide .ensures .1), (omega (arith, k .known, w .started), w .shown .linked ∙ sym (w .ended), omega (arith, k .known, w .shown .linked)))
 
--- src/lib.rt:136:22
-enum-known-b : tie.Need-enum-known-b Inv-loop μ-loop
-enum-known-b c = ?
-
--- src/lib.rt:137:19
-enum-told : tie.Need-enum-told Inv-loop μ-loop
-enum-told c = ?
-
--- src/lib.rt:130:9
-loop-less : tie.Need-loop-less Inv-loop μ-loop
-loop-less c = ?
-
--- src/lib.rt:130:9
 loop-again : tie.Need-loop-again Inv-loop μ-loop
-loop-again c = ?
+loop-again c =
+    let b = c .before .before .before .before .before .before .before .before .before .before .before .before .before .before .before .before .before in
+    let w = b .pre .0 .walkable in
+    let l = c .before .before .before .before .before .before .before .before .loop in
+    let k = l .inv .1 (b .pre .0 .problem) (b .pre .0 .lines) w in
+    let next : (p : Problem) (lines : Lines) (v : Walkable p lines (now (b .args .table)) (now (b .args .before)) (now (b .args .machines)) (b .args .t4) (placed (now (b .args .order)) (now (b .args .starts)) (now (b .args .ends)))) → Walking p lines (placed (now (b .args .order)) (now (b .args .starts)) (now (b .args .ends))) (v .falling .rank) (set (l .path) (l .at - 1) (l .a)) (c .before .b .given .0 .0) (l .at - 1) =
+        λ p lines v.
+        let q = l .inv .1 p lines v in
+        goes v q (l .inv .0 .within) (c .before .b .given .0 .0)
+        (sym (c .before .b .given .1) ∙ back-is v (l .a) (q .known) (c .before .before .before .before .before .before .before .machine-before .ensures p (v .shown .tabled) (q .known)) (c .before .before .before .before .wide .ensures .0) (c .before .before .before .back-of .ensures p (v .shown .tabled) (q .known) (v .shown .few))) in
+    let n = next (b .pre .0 .problem) (b .pre .0 .lines) w in
+    (record {
+      room = omega (arith, n .high);
+      within = omega (arith, l .inv .0 .within, length-set (l .path) (l .at - 1) (l .a));
+      sized = simp length-set (l .inv .0 .sized);
+      kept = kept-below (now (b .args .path)) (l .path) (l .at) (l .a) (l .inv .0 .kept);
+      standing = omega (arith, n .known, w .shown .standing);
+    },
+    next)
 
--- src/lib.rt:114:1
 same-length : tie.Need-same-length Inv-loop μ-loop
-same-length c = ?
+same-length c = simp length-set (c .before .before .before .before .before .before .before .loop .inv .0 .sized)
 
--- src/lib.rt:114:1
 returns : tie.Need-returns Inv-loop μ-loop
-returns c = ?
+returns c =
+    let b = c .before .before .before .before .before .before .before .before .before .before .before .before .before .before .before .before in
+    let w = b .pre .0 .walkable in
+    let l = c .before .before .before .before .before .before .before .loop in
+    let k = l .inv .1 (b .pre .0 .problem) (b .pre .0 .lines) w in
+    (λ p lines v.
+    let q = l .inv .1 p lines v in
+    stops v q (l .inv .0 .within)
+    (sym (c .enum-told .given .1) ∙ back-is v (l .a) (q .known) (c .before .before .before .before .before .before .machine-before .ensures p (v .shown .tabled) (q .known)) (c .before .before .before .wide .ensures .0) (c .before .before .back-of .ensures p (v .shown .tabled) (q .known) (v .shown .few))),
+    (omega (arith, l .inv .0 .room, l .inv .0 .within, l .inv .0 .sized), kept-below (now (b .args .path)) (l .path) (l .at) (l .a) (l .inv .0 .kept)))
 
 pub critical-path-spec : {M : Type 1} → statement M
 critical-path-spec =
@@ -100,21 +129,21 @@ critical-path-spec =
     μ-loop
     last-to-end-requires
     loop-holds
-    sub-at
-    mul-path
-    slice-write-path
+    (λ c. omega arith)
+    (λ c. omega arith)
+    (λ c. omega arith)
     machine-before-requires
-    mul-to
-    shared-slice-read-to
-    mul-way
-    mul-way-2
-    index-1-way
-    index-2-way
-    cast-way
+    (λ c. omega arith)
+    (λ c. omega arith)
+    mul-wide
+    mul-wide-2
+    index-1-wide
+    index-2-wide
+    (λ c κs. search needs)
     back-of-requires
-    enum-known-b
-    enum-told
-    loop-less
+    (λ c. search needs)
+    (λ c. search needs)
+    (λ c. omega arith)
     loop-again
     same-length
     returns)
