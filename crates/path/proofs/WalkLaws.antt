@@ -26,7 +26,7 @@ use Rattle.path.specs.Placing.{Placing, startAt, endAt}
 use Rattle.path.specs.Path.{lastToEnd, orElse, meeting, firstMeeting, endsAt, arrivesAt, backOf, machineBefore, walkBack, criticalPath}
 use Rattle.path.specs.Walking.{Falling, Backed, Shown, Walkable}
 use Rattle.path.proofs.LastLaws.{last-below}
-use Rattle.path.proofs.NeighbourLaws.{pred-lower}
+use Rattle.path.proofs.NeighbourLaws.{pred-lower, pred-below}
 use Rattle.path.proofs.BackLaws.{back-binds, meeting-same}
 
 -- ---- the list that is written from its end
@@ -77,29 +77,35 @@ module _ {p : Problem} {lines : Lines} {table before machines : List ℕ} {ways 
     pub own-known : getD machines a 0 < 16
     own-known = omega (arith, machine-low a h, w .shown .machines-few)
 
-    module _ {from : ℕ} (ef : from ≡ machineBefore machines a (taskPred p a)) where
-      pub from-known : from < 16
-      from-known = omega (arith, ef, from-low (taskPred p a) (λ b e. omega (arith, pred-lower p a b e)), w .shown .machines-few)
+    -- The step before, as it was looked up.
+    module _ {task : Link} (et : task ≡ taskPred p a) where
+      pub task-below : (n : ℕ) → n ≡ p .n → Below n (linked task)
+      task-below n e = rw (et, e) (pred-below p (p .n) a h)
 
-      way-is : (b : ℕ) → taskPred p a ≡ To b → between ways from (getD machines a 0) ≡ wayTo p lines b a
-      way-is b e =
-          let k : b < p .n = omega (arith, pred-lower p a b e) in
-          let f : from ≡ machineOf lines b = ef ∙ ap (machineBefore machines a) e ∙ w .shown .owned b k in
-          rw (w .shown .transports, f, w .shown .owned a h)
-          (between-at (p .transport) (p .machines) (p .machines) (machineOf lines b) (machineOf lines a) (w .shown .known b k) (w .shown .machines-few) (w .shown .known a h) (w .shown .machines-few))
+      module _ {from : ℕ} (ef : from ≡ machineBefore machines a task) where
+        pub from-known : from < 16
+        from-known =
+            omega (arith, ef, ap (machineBefore machines a) et, from-low (taskPred p a) (λ b e. omega (arith, pred-lower p a b e)), w .shown .machines-few)
 
-      -- The step back that the code takes is the rule's.
-      pub back-is : {way : ℕ} {r : Link} → way ≡ between ways from (getD machines a 0)
-          → r ≡ orElse (meeting (λ b. eqb (getD (s .ends) b 0 + 0) (getD (s .starts) a 0)) (linkOf before a)) (orElse (meeting (λ b. eqb (getD (s .ends) b 0 + way) (getD (s .starts) a 0)) (taskPred p a)) (firstMeeting (λ b. eqb (getD (s .ends) b 0) (getD (s .starts) a 0)) (p .predecessors a)))
-          → r ≡ backOf p lines s a
-      back-is {way} ew e =
-          let there : ℕ → Bool = λ b. eqb (getD (s .ends) b 0 + 0) (getD (s .starts) a 0) in
-          let late : ℕ → Bool = λ b. eqb (getD (s .ends) b 0 + way) (getD (s .starts) a 0) in
-          let x : meeting there (linkOf before a) ≡ meeting (endsAt s a) (linePred lines a) =
-              ap (meeting there) (w .shown .preds a h) ∙ meeting-same there (endsAt s a) (linePred lines a) (λ b k. ap (λ (y : ℕ). eqb y (startAt s a)) (omega arith)) in
-          let y : meeting late (taskPred p a) ≡ meeting (arrivesAt p lines s a) (taskPred p a) =
-              meeting-same late (arrivesAt p lines s a) (taskPred p a) (λ b k. ap (λ (z : ℕ). eqb (getD (s .ends) b 0 + z) (startAt s a)) (ew ∙ way-is b k)) in
-          e ∙ rw (x, y)
+        way-is : (b : ℕ) → task ≡ To b → between ways from (getD machines a 0) ≡ wayTo p lines b a
+        way-is b e =
+            let k : b < p .n = omega (arith, pred-lower p a b (sym et ∙ e)) in
+            let f : from ≡ machineOf lines b = ef ∙ ap (machineBefore machines a) e ∙ w .shown .owned b k in
+            rw (w .shown .transports, f, w .shown .owned a h)
+            (between-at (p .transport) (p .machines) (p .machines) (machineOf lines b) (machineOf lines a) (w .shown .known b k) (w .shown .machines-few) (w .shown .known a h) (w .shown .machines-few))
+
+        -- The step back that the code takes is the rule's.
+        pub back-is : {way : ℕ} {r : Link} → way ≡ between ways from (getD machines a 0)
+            → r ≡ orElse (meeting (λ b. eqb (getD (s .ends) b 0 + 0) (getD (s .starts) a 0)) (linkOf before a)) (orElse (meeting (λ b. eqb (getD (s .ends) b 0 + way) (getD (s .starts) a 0)) task) (firstMeeting (λ b. eqb (getD (s .ends) b 0) (getD (s .starts) a 0)) (p .predecessors a)))
+            → r ≡ backOf p lines s a
+        back-is {way} ew e =
+            let there : ℕ → Bool = λ b. eqb (getD (s .ends) b 0 + 0) (getD (s .starts) a 0) in
+            let late : ℕ → Bool = λ b. eqb (getD (s .ends) b 0 + way) (getD (s .starts) a 0) in
+            let x : meeting there (linkOf before a) ≡ meeting (endsAt s a) (linePred lines a) =
+                ap (meeting there) (w .shown .preds a h) ∙ meeting-same there (endsAt s a) (linePred lines a) (λ b k. ap (λ (y : ℕ). eqb y (startAt s a)) (omega arith)) in
+            let y : meeting late task ≡ meeting (arrivesAt p lines s a) (taskPred p a) =
+                meeting-same late (arrivesAt p lines s a) task (λ b k. ap (λ (z : ℕ). eqb (getD (s .ends) b 0 + z) (startAt s a)) (ew ∙ way-is b k)) ∙ ap (meeting (arrivesAt p lines s a)) et in
+            e ∙ rw (x, y)
 
 -- ---- the walk
 

@@ -10,8 +10,7 @@ ghost use Rattle.graph.specs.Counting.{Below};
 ghost use Rattle.graph.specs.Links.{linked, linkOf};
 ghost use Rattle.graph.specs.declared.Link.the-variants.{To};
 ghost use Rattle.plan.specs.Problem.{Problem};
-ghost use Rattle.tables.specs.Tabled.{Tabled, taskPred};
-ghost use Rattle.tables.specs.Found.{Held};
+ghost use Rattle.tables.specs.Tabled.{Tabled};
 ghost use Rattle.lines.specs.Lines.{Lines};
 ghost use Rattle.path.specs.Placing.{placed};
 ghost use Rattle.path.specs.Path.{lastToEnd, orElse, meeting, firstMeeting, machineBefore, criticalPath};
@@ -67,43 +66,52 @@ fn first_meeting(named: &[usize], ends: &[u64], start: u64) -> Link
 
 // Where the path goes back to from an activity that its line does not hold back: the step before it, if a way after its end is this start,
 // else the first listed predecessor that ends there.
-fn back_by_plan(table: &[usize], ends: &[u64], a: usize, way: u64, start: u64) -> Link
-    requires { ⌜ Backed (now table) (now ends) a × ((b : ℕ) → getD (now ends) b 0 < 2 ^ 62) × (way < 2 ^ 32) ⌝ }
-    ensures { λ r. ⌜ ((p : Problem) → Tabled p (now (table .entry)) → a < p .n → p .n ≤ 128 → r ≡ orElse (meeting (λ b. eqb (getD (now (ends .entry)) b 0 + way) start) (taskPred p a)) (firstMeeting (λ b. eqb (getD (now (ends .entry)) b 0) start) (p .predecessors a))) ⌝ }
+fn back_by_plan(
+    table: &[usize],
+    task: Link,
+    ends: &[u64],
+    a: usize,
+    way: u64,
+    start: u64,
+) -> Link
+    requires { ⌜ Backed (now table) (now ends) a × Below (length (now ends)) (linked task) × ((b : ℕ) → getD (now ends) b 0 < 2 ^ 62) × (way < 2 ^ 32) ⌝ }
+    ensures { λ r. ⌜ ((p : Problem) → Tabled p (now (table .entry)) → a < p .n → p .n ≤ 128 → r ≡ orElse (meeting (λ b. eqb (getD (now (ends .entry)) b 0 + way) start) task) (firstMeeting (λ b. eqb (getD (now (ends .entry)) b 0) start) (p .predecessors a))) ⌝ }
 {
-    let Link::To(b) = meeting(tables::before_of(table, a), ends, way, start) else {
+    let Link::To(b) = meeting(task, ends, way, start) else {
         return first_meeting(tables::named_by(table, a), ends, start);
     };
     Link::To(b)
 }
 
-// Where the path goes back to: the line predecessor if it ends at this start, else what task order and predecessors give. `way` is the
-// transport from the machine of the step before.
+// Where the path goes back to: the line predecessor if it ends at this start, else what task order and predecessors give. `task` is the
+// step before, `way` the transport from its machine.
 fn back_of(
     table: &[usize],
     before: &[usize],
+    task: Link,
     starts: &[u64],
     ends: &[u64],
     a: usize,
     way: u64,
 ) -> Link
-    requires { ⌜ Backed (now table) (now ends) a × ((b : ℕ) → getD (now ends) b 0 < 2 ^ 62) × (way < 2 ^ 32) ⌝ }
+    requires { ⌜ Backed (now table) (now ends) a × Below (length (now ends)) (linked task) × ((b : ℕ) → getD (now ends) b 0 < 2 ^ 62) × (way < 2 ^ 32) ⌝ }
     requires { ⌜ (a < length (now starts)) × (length (now before) ≡ length (now ends)) × (a < length (now before)) ⌝ }
-    ensures { λ r. ⌜ ((p : Problem) → Tabled p (now (table .entry)) → a < p .n → p .n ≤ 128 → r ≡ orElse (meeting (λ b. eqb (getD (now (ends .entry)) b 0 + 0) (getD (now (starts .entry)) a 0)) (linkOf (now (before .entry)) a)) (orElse (meeting (λ b. eqb (getD (now (ends .entry)) b 0 + way) (getD (now (starts .entry)) a 0)) (taskPred p a)) (firstMeeting (λ b. eqb (getD (now (ends .entry)) b 0) (getD (now (starts .entry)) a 0)) (p .predecessors a)))) ⌝ }
+    ensures { λ r. ⌜ ((p : Problem) → Tabled p (now (table .entry)) → a < p .n → p .n ≤ 128 → r ≡ orElse (meeting (λ b. eqb (getD (now (ends .entry)) b 0 + 0) (getD (now (starts .entry)) a 0)) (linkOf (now (before .entry)) a)) (orElse (meeting (λ b. eqb (getD (now (ends .entry)) b 0 + way) (getD (now (starts .entry)) a 0)) task) (firstMeeting (λ b. eqb (getD (now (ends .entry)) b 0) (getD (now (starts .entry)) a 0)) (p .predecessors a)))) ⌝ }
 {
     let start = starts[a];
-    let Link::To(b) = meeting(graph::link_of(before, a), ends, 0, start) else {
-        return back_by_plan(table, ends, a, way, start);
+    let line = graph::link_of(before, a);
+    let Link::To(b) = meeting(line, ends, 0, start) else {
+        return back_by_plan(table, task, ends, a, way, start);
     };
     Link::To(b)
 }
 
 // The machine that an activity comes from: that of the step before it, its own where there is none.
-fn machine_before(table: &[usize], machines: &[usize], a: usize) -> usize
-    requires { ⌜ Held (now table) a × (a < length (now machines)) ⌝ }
-    ensures { λ r. ⌜ ((p : Problem) → Tabled p (now (table .entry)) → a < p .n → r ≡ machineBefore (now (machines .entry)) a (taskPred p a)) ⌝ }
+fn machine_before(task: Link, machines: &[usize], a: usize) -> usize
+    requires { ⌜ Below (length (now machines)) (linked task) × (a < length (now machines)) ⌝ }
+    ensures { λ r. ⌜ r ≡ machineBefore (now (machines .entry)) a task ⌝ }
 {
-    let Link::To(b) = tables::before_of(table, a) else {
+    let Link::To(b) = task else {
         return machines[a];
     };
     machines[b]
@@ -137,10 +145,11 @@ pub fn critical_path(
     let first = loop {
         at -= 1;
         path[at] = a;
-        let from = machine_before(table, machines, a);
+        let task = tables::before_of(table, a);
+        let from = machine_before(task, machines, a);
         let to = machines[a];
         let way = wide(ways[from][to]);
-        let Link::To(b) = back_of(table, before, starts, ends, a, way) else {
+        let Link::To(b) = back_of(table, before, task, starts, ends, a, way) else {
             break at;
         };
         a = b;

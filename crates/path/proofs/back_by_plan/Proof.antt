@@ -1,57 +1,45 @@
 -- `path::back_by_plan` meets its contract: the step before if it meets the start, else the first listed that does.
 use Prim.Native.Nat.{ℕ, _+_}
 use mathlib.Core.Path.{sym, ap, _∙_}
-use mathlib.Core.List.{List}
 use mathlib.Core.Bool.{Bool}
 use borrow.Author.Needs.{needs}
 use denote.Ref.{now}
 use lib.Dec.{eqb}
 use lib.ListN.{getD}
-use Rattle.graph.specs.declared.Link.{Link}
-use Rattle.tables.specs.Tabled.{taskPred}
 use Rattle.path.specs.Path.{meeting, firstMeeting}
-use Rattle.path.proofs.NeighbourLaws.{pred-below}
 use Rattle.path.proofs.MeetingLaws.{second, first-to}
 use Rattle.path.proofs.back_by_plan.Statement.{statement}
 use Rattle.path.proofs.back_by_plan.Tie as tie
 
-meeting-requires : tie.Need-meeting-requires
-meeting-requires c κs =
-    let b = c .before .before .before in
-    let k = b .pre .0 .held in
-    (rw (c .before-of .ensures (k .problem) (k .tabled) (k .known), b .pre .0 .ended) (pred-below (k .problem) (k .problem .n) (b .args .a) (k .known)), b .pre .1, b .pre .2)
-
 first-meeting-requires : tie.Need-first-meeting-requires
 first-meeting-requires c κs =
-    let b = c .before .before .before .before .before .before .before in
+    let b = c .before .before .before .before .before .before in
     let k = b .pre .0 .held in
     rw (c .named-by .ensures (k .problem) (k .tabled) (k .known) (k .few), b .pre .0 .ended) (b .pre .0 .named)
 
 returns : tie.Need-returns
 returns c =
-    let a = c .before .before .before .before .before .before .before .before .args in
-    let late : ℕ → Bool = λ x. eqb (getD (now (a .ends)) x 0 + a .way) (a .start) in
-    let there : ℕ → Bool = λ x. eqb (getD (now (a .ends)) x 0) (a .start) in
-    λ p t h f.
-    second (meeting late (taskPred p (a .a)))
-    (ap (meeting late) (sym (c .before .before .before .before .before .before-of .ensures p t h)) ∙ sym (c .before .before .before .before .meeting .ensures) ∙ c .before .before .enum-told .given .1)
-    (c .first-meeting .ensures ∙ ap (firstMeeting there) (c .before .named-by .ensures p t h f))
-
-returns-2 : tie.Need-returns-2
-returns-2 c =
     let a = c .before .before .before .before .before .before .before .args in
     let late : ℕ → Bool = λ x. eqb (getD (now (a .ends)) x 0 + a .way) (a .start) in
     let there : ℕ → Bool = λ x. eqb (getD (now (a .ends)) x 0) (a .start) in
     λ p t h f.
-    first-to (meeting late (taskPred p (a .a))) (firstMeeting there (p .predecessors (a .a))) (c .before .b .given .0 .0)
-    (ap (meeting late) (sym (c .before .before .before .before .before-of .ensures p t h)) ∙ sym (c .before .before .before .meeting .ensures) ∙ c .before .b .given .1)
+    second (meeting late (a .task)) (sym (c .before .before .before .before .meeting .ensures) ∙ c .before .before .enum-told .given .1)
+    (c .first-meeting .ensures ∙ ap (firstMeeting there) (c .before .named-by .ensures p t h f))
+
+returns-2 : tie.Need-returns-2
+returns-2 c =
+    let a = c .before .before .before .before .before .before .args in
+    let late : ℕ → Bool = λ x. eqb (getD (now (a .ends)) x 0 + a .way) (a .start) in
+    let there : ℕ → Bool = λ x. eqb (getD (now (a .ends)) x 0) (a .start) in
+    λ p t h f.
+    first-to (meeting late (a .task)) (firstMeeting there (p .predecessors (a .a))) (c .before .b .given .0 .0)
+    (sym (c .before .before .before .meeting .ensures) ∙ c .before .b .given .1)
 
 pub back-by-plan-spec : {M : Type 1} → statement M
 back-by-plan-spec =
     tie.close
     (tie.spec
     (λ c κs. search needs)
-    meeting-requires
     (λ c. search needs)
     (λ c. search needs)
     (λ c κs. search needs)

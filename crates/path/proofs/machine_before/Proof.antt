@@ -1,42 +1,35 @@
 -- `path::machine_before` meets its contract: the link opened, and a cell.
-use mathlib.Core.Path.{sym, ap, _∙_}
+use mathlib.Core.Path.{sym, ap}
 use native.Mathlib.Omega.{arith}
 use borrow.Author.Needs.{needs}
 use denote.Ref.{now}
+use lib.ListN.{length}
+use Rattle.bounds.proofs.ArrivalLaws.{link-names}
 use Rattle.path.specs.Path.{machineBefore}
-use Rattle.path.proofs.NeighbourLaws.{pred-lower}
 use Rattle.path.proofs.machine_before.Statement.{statement}
 use Rattle.path.proofs.machine_before.Tie as tie
 
 returns : tie.Need-returns
-returns c =
-    let a = c .before .before .before .before .before .before .args in
-    λ p t h. ap (machineBefore (now (a .machines)) (a .a)) (sym (c .before .enum-told .given .1) ∙ c .before .before .before .before-of .ensures p t h)
+returns c = rw (c .before .enum-told .given .1)
 
 mul-result-2 : tie.Need-mul-result-2
 mul-result-2 c =
-    let b = c .before .before .before .before .before .before in
-    let k = b .pre .0 in
-    let l = pred-lower (k .problem) (b .args .a) (c .before .b .given .0 .0) (sym (c .before .before .before .before-of .ensures (k .problem) (k .tabled) (k .known)) ∙ c .before .b .given .1) in
+    let b = c .before .before .before in
+    let h = link-names (length (now (b .args .machines))) (c .before .task .given .0 .0) (c .before .task .given .1) (b .pre .0) in
     omega arith
 
 shared-slice-read-result-2 : tie.Need-shared-slice-read-result-2
 shared-slice-read-result-2 c =
-    let b = c .before .before .before .before .before .before .before in
-    let k = b .pre .0 in
-    let l = pred-lower (k .problem) (b .args .a) (c .before .before .b .given .0 .0) (sym (c .before .before .before .before .before-of .ensures (k .problem) (k .tabled) (k .known)) ∙ c .before .before .b .given .1) in
-    omega arith
+    let b = c .before .before .before .before in
+    link-names (length (now (b .args .machines))) (c .before .before .task .given .0 .0) (c .before .before .task .given .1) (b .pre .0)
 
 returns-2 : tie.Need-returns-2
-returns-2 c =
-    let a = c .before .before .before .before .before .before .before .args in
-    λ p t h. ap (machineBefore (now (a .machines)) (a .a)) (sym (c .before .before .b .given .1) ∙ c .before .before .before .before .before-of .ensures p t h)
+returns-2 c = rw (c .before .before .task .given .1)
 
 pub machine-before-spec : {M : Type 1} → statement M
 machine-before-spec =
     tie.close
     (tie.spec
-    (λ c κs. search needs)
     (λ c. search needs)
     (λ c. search needs)
     (λ c. search needs)
