@@ -21,7 +21,7 @@ pub record Seeking (order ends : List ℕ) (last i : ℕ) : Type 0 where
   pub known : last < length ends
   pub left : lastFrom ends last (drop i order) ≡ lastFrom ends (getD order 0 0) (drop 1 order)
 
-starts-with : (order ends : List ℕ) → 0 < length order → lastToEnd order ends ≡ To (lastFrom ends (getD order 0 0) (drop 1 order))
+pub starts-with : (order ends : List ℕ) → 0 < length order → lastToEnd order ends ≡ To (lastFrom ends (getD order 0 0) (drop 1 order))
 starts-with [] ends h = absurd (omega arith)
 starts-with (a ∷ order) ends h = refl
 

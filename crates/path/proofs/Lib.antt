@@ -5,3 +5,6 @@ pub mod NeighbourLaws
 pub mod SettingLaws
 pub mod BackLaws
 pub mod WalkLaws
+pub mod FallingLaws
+pub mod BoundLaws
+pub mod Worked

@@ -97,23 +97,20 @@ module _ {p : Problem} {lines : Lines} {table links : List ℕ} {s : Placing} (w
           greatest-least (after s tail) (frees p lines (getD (s .order) (i - 1) 0)) 0 ((length (s .order) - (i - 1)) * 2 ^ 34) (omega arith)
           (λ q l. omega (arith, short-all w q, k .low q, k .within))
 
-      -- The tail that the links give.
-      by-links : {x : ℕ}
-          → x ≡ greatest (after s tail) (linked (linkOf links (getD (s .order) (i - 1) 0)) ++ (linked (taskSucc p (getD (s .order) (i - 1) 0)) ++ p .waiting (getD (s .order) (i - 1) 0))) 0
-          → x ≡ tailOf p lines s tail (getD (s .order) (i - 1) 0)
-      by-links e =
+      pub set-one : {x : ℕ} → x ≡ tailOf p lines s tail (getD (s .order) (i - 1) 0) → Setting p lines s (set tail (getD (s .order) (i - 1) 0) x) (i - 1)
+      set-one {x} e =
           let a = getD (s .order) (i - 1) 0 in
-          e ∙ ap (λ (l : Link). greatest (after s tail) (linked l ++ (linked (taskSucc p a) ++ p .waiting a)) 0) (w .succs a known)
-
-      pub again : {x : ℕ}
-          → x ≡ greatest (after s tail) (linked (linkOf links (getD (s .order) (i - 1) 0)) ++ (linked (taskSucc p (getD (s .order) (i - 1) 0)) ++ p .waiting (getD (s .order) (i - 1) 0))) 0
-          → Setting p lines s (set tail (getD (s .order) (i - 1) 0) x) (i - 1)
-      again {x} e =
-          let a = getD (s .order) (i - 1) 0 in
-          let f = by-links e in
           record {
             within = omega (arith, k .within);
             sized = length-set tail a x ∙ k .sized;
-            low = set-most tail a x ((length (s .order) - (i - 1)) * 2 ^ 34) (omega (arith, f, tail-most)) (λ b. omega (arith, k .low b, k .within));
-            left = ap (λ (y : ℕ). tailsDown p lines s (i - 1) (set tail a y)) f ∙ sym (down p lines s i (i - 1) tail (omega arith)) ∙ k .left;
+            low = set-most tail a x ((length (s .order) - (i - 1)) * 2 ^ 34) (omega (arith, e, tail-most)) (λ b. omega (arith, k .low b, k .within));
+            left = ap (λ (y : ℕ). tailsDown p lines s (i - 1) (set tail a y)) e ∙ sym (down p lines s i (i - 1) tail (omega arith)) ∙ k .left;
           }
+
+      -- .. the tail that the links give
+      pub again : {x : ℕ}
+          → x ≡ greatest (after s tail) (linked (linkOf links (getD (s .order) (i - 1) 0)) ++ (linked (taskSucc p (getD (s .order) (i - 1) 0)) ++ p .waiting (getD (s .order) (i - 1) 0))) 0
+          → Setting p lines s (set tail (getD (s .order) (i - 1) 0) x) (i - 1)
+      again e =
+          let a = getD (s .order) (i - 1) 0 in
+          set-one (e ∙ ap (λ (l : Link). greatest (after s tail) (linked l ++ (linked (taskSucc p a) ++ p .waiting a)) 0) (w .succs a known))

@@ -3,10 +3,12 @@ use Prim.Native.Nat.{ℕ, _+_, _≤_, _<_, max}
 use mathlib.Core.Path.{_≡_, refl, sym, ap, _∙_}
 use mathlib.Core.List.{List, [], _∷_, _++_}
 use native.Mathlib.Omega.{arith}
+use lib.ListN.{length, getD}
 use Rattle.graph.specs.Links.{linked}
 use Rattle.graph.specs.Shop.{greatest}
 use Rattle.graph.specs.declared.Link.{Link}
 use Rattle.graph.specs.declared.Link.the-variants.{To, Nothing}
+use Rattle.timing.proofs.NamedLaws.{Looking, later}
 
 pub greatest-append : (f : ℕ → ℕ) (xs ys : List ℕ) (m : ℕ) → greatest f (xs ++ ys) m ≡ greatest f ys (greatest f xs m)
 unfolding greatest
@@ -33,3 +35,8 @@ pub greatest-three : (f : ℕ → ℕ) (line task : Link) (waiting : List ℕ) {
 greatest-three f line task waiting ex ey ez =
     ez ∙ ap (greatest f waiting) (ey ∙ ap (greatest f (linked task)) ex)
     ∙ sym (greatest-append f (linked line) (linked task ++ waiting) 0 ∙ greatest-append f (linked task) waiting (greatest f (linked line) 0))
+
+-- One turn over a list, where the next is longer than the longest so far.
+pub longer : {f : ℕ → ℕ} {list : List ℕ} {first longest i x : ℕ} → Looking f list first longest i → i < length list → x ≡ f (getD list i 0)
+    → longest < f (getD list i 0) → Looking f list first x (i + 1)
+longer k h e l = rw e (later k h l)

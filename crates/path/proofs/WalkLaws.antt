@@ -53,14 +53,14 @@ pub record Space (machines old path : List ℕ) (a at : ℕ) : Type 0 where
 
 module _ {p : Problem} {lines : Lines} {table before machines : List ℕ} {ways : List (List ℕ)} {s : Placing}
     (w : Walkable p lines table before machines ways s) where
-  arc-known : (q a : ℕ) → Binds p lines q a → q < p .n
+  pub arc-known : (q a : ℕ) → Binds p lines q a → q < p .n
   arc-known q a (line h e) =
       omega (arith, w .shown .linked, link-names (length before) q (w .shown .preds a h ∙ e) (link-below before a))
   arc-known q a (task h e) = omega (arith, h, pred-lower p a q e)
   arc-known q a (name h k) = below-of (p .n) q (p .predecessors a) (w .shown .named a h) k
 
   module _ (a : ℕ) (h : a < p .n) where
-    pub held : Held table a
+    held : Held table a
     held = record { problem = p; tabled = w .shown .tabled; known = h; few = w .shown .few }
 
     pub backed : Backed table (s .ends) a

@@ -35,9 +35,9 @@ last-to-end-spec =
     (λ c. omega arith)
     (λ c.
     let p = c .before .before .before .before .before .before .before .pre in
-    later (p .0) (p .1) (c .before .before .before .before .before .loop .inv) (c .before .before .before .before .loop-test .taken) (c .if1 .taken))
+    later (p .0) (p .1) (c .before .before .before .before .before .loop .inv) (c .before .before .before .before .loop-test .taken) (omega (arith, c .if1 .taken)))
     (λ c. omega arith)
     (λ c.
     let p = c .before .before .before .before .before .before .before .pre in
-    kept (p .0) (p .1) (c .before .before .before .before .before .loop .inv) (c .before .before .before .before .loop-test .taken) (c .if1 .left))
+    kept (p .0) (p .1) (c .before .before .before .before .before .loop .inv) (c .before .before .before .before .loop-test .taken) (omega (arith, c .if1 .left)))
     (λ c. let p = c .before .before .before .pre in found (p .0) (p .1) (c .before .loop .inv) (c .loop-test .left)))

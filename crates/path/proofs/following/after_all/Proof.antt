@@ -1,11 +1,12 @@
 -- `path::following::after_all` meets its contract. The loop's invariant: what is left, with the longest so far, has the same greatest.
 use Prim.Native.Nat.{_-_, _+_}
-use mathlib.Core.Path.{refl, sym}
+use mathlib.Core.Path.{refl}
 use native.Mathlib.Omega.{arith}
 use denote.Ref.{now}
 use lib.ListN.{length, getD}
 use Rattle.graph.proofs.CountingLaws.{below-at}
-use Rattle.timing.proofs.NamedLaws.{Looking, looked, later, no-later}
+use Rattle.timing.proofs.NamedLaws.{Looking, looked, no-later}
+use Rattle.path.proofs.TailLaws.{longer}
 use Rattle.path.proofs.following.after_all.Statement.{statement}
 use Rattle.path.proofs.following.after_all.Tie as tie
 
@@ -24,7 +25,8 @@ span-and-tail-requires c κs =
 loop-again : tie.Need-loop-again Inv-loop μ-loop
 loop-again c =
     let l = c .before .before .before .before in
-    rw (c .before .span-and-tail .ensures) (later (l .loop .inv) (c .before .before .before .loop-test .taken) (omega (arith, c .if1 .taken, c .before .span-and-tail .ensures)))
+    let e = c .before .span-and-tail .ensures in
+    longer (l .loop .inv) (c .before .before .before .loop-test .taken) (omega (arith, e)) (omega (arith, c .if1 .taken, e))
 
 loop-again-2 : tie.Need-loop-again-2 Inv-loop μ-loop
 loop-again-2 c =
