@@ -1,15 +1,11 @@
 -- A step back goes along an arc: to the line predecessor, the task predecessor, or one that is named.
-use Prim.Native.Nat.{ℕ, _+_, _<_}
-use mathlib.Core.Path.{_≡_, refl, sym, ap, _∙_}
+use Prim.Native.Nat.{ℕ, _<_}
+use mathlib.Core.Path.{_≡_, refl, ap}
 use mathlib.Core.Bool.{Bool}
-use mathlib.Core.List.{List, [], _∷_}
-use mathlib.Core.Logic.{_⊎_, inl, inr, ⊎-elim}
-use native.Mathlib.Omega.{arith}
-use Rattle.graph.specs.Counting.{countOf}
+use mathlib.Core.Logic.{⊎-elim}
 use Rattle.graph.specs.Links.{toIf}
 use Rattle.graph.specs.declared.Link.{Link}
 use Rattle.graph.specs.declared.Link.the-variants.{To, Nothing}
-use Rattle.graph.proofs.CountingLaws.{hit-eq}
 use Rattle.plan.specs.Problem.{Problem}
 use Rattle.tables.specs.Tabled.{taskPred}
 use Rattle.lines.specs.Lines.{Lines, linePred}
@@ -17,21 +13,11 @@ use Rattle.timing.specs.Exactly.{Binds, line, task, name}
 use Rattle.path.specs.Placing.{Placing}
 use Rattle.path.specs.Path.{orElse, meeting, firstMeeting, endsAt, arrivesAt, backOf}
 use Rattle.path.proofs.NeighbourLaws.{nothing-to, to-is}
-
-either-link : (first other : Link) (q : ℕ) → orElse first other ≡ To q → (first ≡ To q) ⊎ (other ≡ To q)
-either-link (To b) other q e = inl e
-either-link Nothing other q e = inr e
+use Rattle.path.proofs.MeetingLaws.{either-link, first-named}
 
 meeting-to : (test : ℕ → Bool) (l : Link) (q : ℕ) → meeting test l ≡ To q → l ≡ To q
 meeting-to test (To b) q e = ap To (to-is (test b) b q e .1)
 meeting-to test Nothing q e = absurd (nothing-to e)
-
-first-named : (test : ℕ → Bool) (named : List ℕ) (q : ℕ) → firstMeeting test named ≡ To q → 0 < countOf q named
-unfolding firstMeeting countOf
-first-named test [] q e = absurd (nothing-to e)
-first-named test (b ∷ named) q e =
-    let deeper = first-named test named q in
-    ⊎-elim (λ x. omega (arith, hit-eq b q (to-is (test b) b q x .1))) (λ y. omega (arith, deeper y)) (either-link (toIf (test b) b) (firstMeeting test named) q e)
 
 pub back-binds : (p : Problem) (lines : Lines) (s : Placing) (a q : ℕ) → a < p .n → backOf p lines s a ≡ To q → Binds p lines q a
 back-binds p lines s a q h e =

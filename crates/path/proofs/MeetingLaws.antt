@@ -3,14 +3,18 @@ use Prim.Native.Nat.{ℕ, zero, suc, _+_, _≤_, _<_}
 use mathlib.Core.Path.{_≡_, refl, sym, ap, _∙_}
 use mathlib.Core.List.{List, [], _∷_}
 use mathlib.Core.Bool.{Bool, true, false}
+use mathlib.Core.Logic.{_⊎_, inl, inr, ⊎-elim}
 use native.Mathlib.Omega.{arith}
 use native.Mathlib.Numerals.{add-one}
 use lib.ListN.{length, getD, drop}
 use lib.Seq.{drop-cons, drop-length}
+use Rattle.graph.specs.Counting.{countOf}
 use Rattle.graph.specs.Links.{toIf}
 use Rattle.graph.specs.declared.Link.{Link}
 use Rattle.graph.specs.declared.Link.the-variants.{To, Nothing}
+use Rattle.graph.proofs.CountingLaws.{hit-eq}
 use Rattle.path.specs.Path.{orElse, firstMeeting}
+use Rattle.path.proofs.NeighbourLaws.{nothing-to, to-is}
 
 pub record Passing (test : ℕ → Bool) (named : List ℕ) (i : ℕ) : Type 0 where
   pub within : i ≤ length named
@@ -41,3 +45,15 @@ second first e g = rw e g
 
 pub first-to : (first other : Link) (b : ℕ) → first ≡ To b → To b ≡ orElse first other
 first-to first other b e = rw e
+
+pub either-link : (first other : Link) (q : ℕ) → orElse first other ≡ To q → (first ≡ To q) ⊎ (other ≡ To q)
+either-link (To b) other q e = inl e
+either-link Nothing other q e = inr e
+
+-- The first of a list that passes is one of it.
+pub first-named : (test : ℕ → Bool) (named : List ℕ) (q : ℕ) → firstMeeting test named ≡ To q → 0 < countOf q named
+unfolding firstMeeting countOf
+first-named test [] q e = absurd (nothing-to e)
+first-named test (b ∷ named) q e =
+    let deeper = first-named test named q in
+    ⊎-elim (λ x. omega (arith, hit-eq b q (to-is (test b) b q x .1))) (λ y. omega (arith, deeper y)) (either-link (toIf (test b) b) (firstMeeting test named) q e)

@@ -57,7 +57,8 @@ mul-wide c =
     let w = b .pre .0 .walkable in
     let l = c .before .before .before .loop in
     let k = l .inv .1 (b .pre .0 .problem) (b .pre .0 .lines) w in
-    let h = from-known w (l .a) (k .known) (c .before .before .before-of .ensures (b .pre .0 .problem) (w .shown .tabled) (k .known)) (c .before .machine-before .ensures) in
+    let from = from-known w (l .a) (k .known) (c .before .before .before-of .ensures (b .pre .0 .problem) (w .shown .tabled) (k .known)) (c .before .machine-before .ensures) in
+    let to = own-known w (l .a) (k .known) in
     omega arith
 
 mul-wide-2 : tie.Need-mul-wide-2 Inv-loop μ-loop
@@ -66,7 +67,8 @@ mul-wide-2 c =
     let w = b .pre .0 .walkable in
     let l = c .before .before .before .loop in
     let k = l .inv .1 (b .pre .0 .problem) (b .pre .0 .lines) w in
-    let h = own-known w (l .a) (k .known) in
+    let from = from-known w (l .a) (k .known) (c .before .before .before-of .ensures (b .pre .0 .problem) (w .shown .tabled) (k .known)) (c .before .machine-before .ensures) in
+    let to = own-known w (l .a) (k .known) in
     omega arith
 
 index-1-wide : tie.Need-index-1-wide Inv-loop μ-loop
@@ -75,7 +77,9 @@ index-1-wide c =
     let w = b .pre .0 .walkable in
     let l = c .before .before .before .loop in
     let k = l .inv .1 (b .pre .0 .problem) (b .pre .0 .lines) w in
-    from-known w (l .a) (k .known) (c .before .before .before-of .ensures (b .pre .0 .problem) (w .shown .tabled) (k .known)) (c .before .machine-before .ensures)
+    let from = from-known w (l .a) (k .known) (c .before .before .before-of .ensures (b .pre .0 .problem) (w .shown .tabled) (k .known)) (c .before .machine-before .ensures) in
+    let to = own-known w (l .a) (k .known) in
+    omega arith
 
 index-2-wide : tie.Need-index-2-wide Inv-loop μ-loop
 index-2-wide c =
@@ -83,7 +87,9 @@ index-2-wide c =
     let w = b .pre .0 .walkable in
     let l = c .before .before .before .loop in
     let k = l .inv .1 (b .pre .0 .problem) (b .pre .0 .lines) w in
-    own-known w (l .a) (k .known)
+    let from = from-known w (l .a) (k .known) (c .before .before .before-of .ensures (b .pre .0 .problem) (w .shown .tabled) (k .known)) (c .before .machine-before .ensures) in
+    let to = own-known w (l .a) (k .known) in
+    omega arith
 
 back-of-requires : tie.Need-back-of-requires Inv-loop μ-loop
 back-of-requires c κs =
