@@ -1,5 +1,5 @@
 -- One turn of the loop that looks for the greatest end: what is left, from the last so far, gives the same activity.
-use Prim.Native.Nat.{ℕ, zero, suc, _+_, _≤_, _<_}
+use Prim.Native.Nat.{ℕ, _+_, _≤_, _<_}
 use mathlib.Core.Path.{_≡_, refl, sym, ap, _∙_}
 use mathlib.Core.List.{List, [], _∷_}
 use mathlib.Core.Bool.{Bool, true, false, cond}
@@ -10,7 +10,6 @@ use lib.Dec.{leb}
 use lib.ListN.{length, getD, drop}
 use lib.Seq.{drop-cons, drop-length}
 use Rattle.graph.specs.Counting.{Below}
-use Rattle.graph.specs.declared.Link.{Link}
 use Rattle.graph.specs.declared.Link.the-variants.{To}
 use Rattle.graph.proofs.CountingLaws.{below-at}
 use Rattle.path.specs.Path.{lastFrom, lastToEnd}

@@ -8,3 +8,4 @@ pub mod WalkLaws
 pub mod FallingLaws
 pub mod BoundLaws
 pub mod Worked
+pub mod TimedLaws

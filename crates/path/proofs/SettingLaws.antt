@@ -1,11 +1,10 @@
 -- One turn of the loop that sets tails: what is left to set, over those set so far, gives all of them; and no tail is long.
-use Prim.Native.Nat.{ℕ, zero, suc, _+_, _-_, _*_, _^_, _≤_, _<_}
+use Prim.Native.Nat.{ℕ, suc, _+_, _-_, _*_, _^_, _≤_, _<_}
 use mathlib.Core.Path.{_≡_, refl, sym, ap, _∙_}
 use mathlib.Core.List.{List, _++_}
 use native.Mathlib.Omega.{arith}
 use lib.ListN.{length, getD, set, replicate, length-set, length-replicate, List·getD-eq-default}
 use lib.Seq.{getD-set-same, getD-set-other}
-use Rattle.graph.specs.Counting.{countOf, Below}
 use Rattle.graph.specs.Links.{linked, linkOf}
 use Rattle.graph.specs.Shop.{greatest}
 use Rattle.graph.specs.declared.Link.{Link}
@@ -16,7 +15,7 @@ use Rattle.plan.specs.Problem.{Problem}
 use Rattle.tables.specs.Tabled.{taskSucc}
 use Rattle.lines.specs.Lines.{Lines}
 use Rattle.timing.specs.Timing.{frees}
-use Rattle.path.specs.Placing.{Placing, startAt, endAt, spanIn}
+use Rattle.path.specs.Placing.{Placing, spanIn}
 use Rattle.path.specs.Tails.{after, tailOf, tailsDown, tails}
 use Rattle.path.specs.Following.{Addable, Freed, Followed}
 

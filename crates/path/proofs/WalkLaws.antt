@@ -1,8 +1,8 @@
 -- One turn of the walk back: what is left to walk, before the path so far, gives the whole path; and the code's step back is the rule's.
 use Prim.Native.Nat.{ℕ, zero, suc, _+_, _-_, _≤_, _<_}
-use mathlib.Core.Path.{_≡_, refl, sym, ap, _∙_, subst}
+use mathlib.Core.Path.{_≡_, refl, sym, ap, _∙_}
 use mathlib.Core.Bool.{Bool}
-use mathlib.Core.List.{List, [], _∷_}
+use mathlib.Core.List.{List, _∷_}
 use native.Mathlib.Omega.{arith}
 use lib.Dec.{eqb}
 use lib.ListN.{length, getD, set, take, drop, length-set}
@@ -22,9 +22,9 @@ use Rattle.lines.specs.Lines.{Lines, linePred, machineOf}
 use Rattle.bounds.proofs.ArrivalLaws.{link-names}
 use Rattle.timing.specs.Timing.{wayTo}
 use Rattle.timing.specs.Exactly.{Binds, line, task, name}
-use Rattle.path.specs.Placing.{Placing, startAt, endAt}
+use Rattle.path.specs.Placing.{Placing, startAt}
 use Rattle.path.specs.Path.{lastToEnd, orElse, meeting, firstMeeting, endsAt, arrivesAt, backOf, machineBefore, walkBack, criticalPath}
-use Rattle.path.specs.Walking.{Falling, Backed, Shown, Walkable}
+use Rattle.path.specs.Walking.{Backed, Walkable}
 use Rattle.path.proofs.LastLaws.{last-below}
 use Rattle.path.proofs.NeighbourLaws.{pred-lower, pred-below}
 use Rattle.path.proofs.BackLaws.{back-binds, meeting-same}
@@ -96,15 +96,13 @@ module _ {p : Problem} {lines : Lines} {table before machines : List ℕ} {ways 
 
         -- The step back that the code takes is the rule's.
         pub back-is : {way : ℕ} {r : Link} → way ≡ between ways from (getD machines a 0)
-            → r ≡ orElse (meeting (λ b. eqb (getD (s .ends) b 0 + 0) (getD (s .starts) a 0)) (linkOf before a)) (orElse (meeting (λ b. eqb (getD (s .ends) b 0 + way) (getD (s .starts) a 0)) task) (firstMeeting (λ b. eqb (getD (s .ends) b 0) (getD (s .starts) a 0)) (p .predecessors a)))
+            → r ≡ orElse (meeting (λ b. eqb (getD (s .ends) b 0) (getD (s .starts) a 0)) (linkOf before a)) (orElse (meeting (λ b. eqb (getD (s .ends) b 0 + way) (getD (s .starts) a 0)) task) (firstMeeting (λ b. eqb (getD (s .ends) b 0) (getD (s .starts) a 0)) (p .predecessors a)))
             → r ≡ backOf p lines s a
         back-is {way} ew e =
-            let there : ℕ → Bool = λ b. eqb (getD (s .ends) b 0 + 0) (getD (s .starts) a 0) in
             let late : ℕ → Bool = λ b. eqb (getD (s .ends) b 0 + way) (getD (s .starts) a 0) in
-            let x : meeting there (linkOf before a) ≡ meeting (endsAt s a) (linePred lines a) =
-                ap (meeting there) (w .shown .preds a h) ∙ meeting-same there (endsAt s a) (linePred lines a) (λ b k. ap (λ (y : ℕ). eqb y (startAt s a)) (omega arith)) in
+            let x : meeting (endsAt s a) (linkOf before a) ≡ meeting (endsAt s a) (linePred lines a) = ap (meeting (endsAt s a)) (w .shown .preds a h) in
             let y : meeting late task ≡ meeting (arrivesAt p lines s a) (taskPred p a) =
-                meeting-same late (arrivesAt p lines s a) task (λ b k. ap (λ (z : ℕ). eqb (getD (s .ends) b 0 + z) (startAt s a)) (ew ∙ way-is b k)) ∙ ap (meeting (arrivesAt p lines s a)) et in
+            meeting-same late (arrivesAt p lines s a) task (λ b k. ap (λ (z : ℕ). eqb (getD (s .ends) b 0 + z) (startAt s a)) (ew ∙ way-is b k)) ∙ ap (meeting (arrivesAt p lines s a)) et in
             e ∙ rw (x, y)
 
 -- ---- the walk

@@ -1,7 +1,6 @@
 -- The path and the tails of Plan S's lines as given, by the rules themselves.
-use Prim.Native.Nat.{ℕ}
 use mathlib.Core.Path.{_≡_, refl}
-use mathlib.Core.List.{List, [], _∷_}
+use mathlib.Core.List.{[], _∷_}
 use Rattle.graph.specs.Filing as filing
 use Rattle.graph.specs.Counting as counting
 use Rattle.graph.specs.Shop as shop

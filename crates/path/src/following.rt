@@ -1,7 +1,7 @@
 // Tails: how long the work is that follows each activity, at least.
 ghost use mathlib.Core.Path.{_≡_};
 ghost use mathlib.Core.List.{_++_};
-ghost use Prim.Native.Nat.{ℕ, _+_, _-_, _<_, _≤_};
+ghost use Prim.Native.Nat.{_+_, _-_, _<_, _≤_};
 ghost use lib.ListN.{length, getD, replicate};
 ghost use Rattle.graph.specs.Counting.{Below};
 ghost use Rattle.graph.specs.Links.{linked, linkOf};
@@ -78,7 +78,13 @@ fn tail_of(
     ensures { λ r. ⌜ ((p : Problem) → Tabled p (now (table .entry)) → a < p .n → p .n ≤ 128 → length (now (after .entry)) ≡ p .n → r ≡ greatest (λ x. getD (now (ends .entry)) x 0 - getD (now (starts .entry)) x 0 + getD (now (tail .entry)) x 0) (linked (linkOf (now (after .entry)) a) ++ (linked (taskSucc p a) ++ p .waiting a)) 0) ⌝ }
 {
     let line = after_link(graph::link_of(after, a), starts, ends, tail, 0);
-    let task = after_link(tables::next_of(table, after.len(), a), starts, ends, tail, line);
+    let task = after_link(
+        tables::next_of(table, after.len(), a),
+        starts,
+        ends,
+        tail,
+        line,
+    );
     after_all(tables::waiting_for(table, a), starts, ends, tail, task)
 }
 

@@ -66,14 +66,7 @@ fn first_meeting(named: &[usize], ends: &[u64], start: u64) -> Link
 
 // Where the path goes back to from an activity that its line does not hold back: the step before it, if a way after its end is this start,
 // else the first listed predecessor that ends there.
-fn back_by_plan(
-    table: &[usize],
-    task: Link,
-    ends: &[u64],
-    a: usize,
-    way: u64,
-    start: u64,
-) -> Link
+fn back_by_plan(table: &[usize], task: Link, ends: &[u64], a: usize, way: u64, start: u64) -> Link
     requires { ⌜ Backed (now table) (now ends) a × Below (length (now ends)) (linked task) × ((b : ℕ) → getD (now ends) b 0 < 2 ^ 62) × (way < 2 ^ 32) ⌝ }
     ensures { λ r. ⌜ ((p : Problem) → Tabled p (now (table .entry)) → a < p .n → p .n ≤ 128 → r ≡ orElse (meeting (λ b. eqb (getD (now (ends .entry)) b 0 + way) start) task) (firstMeeting (λ b. eqb (getD (now (ends .entry)) b 0) start) (p .predecessors a))) ⌝ }
 {
@@ -96,7 +89,7 @@ fn back_of(
 ) -> Link
     requires { ⌜ Backed (now table) (now ends) a × Below (length (now ends)) (linked task) × ((b : ℕ) → getD (now ends) b 0 < 2 ^ 62) × (way < 2 ^ 32) ⌝ }
     requires { ⌜ (a < length (now starts)) × (length (now before) ≡ length (now ends)) × (a < length (now before)) ⌝ }
-    ensures { λ r. ⌜ ((p : Problem) → Tabled p (now (table .entry)) → a < p .n → p .n ≤ 128 → r ≡ orElse (meeting (λ b. eqb (getD (now (ends .entry)) b 0 + 0) (getD (now (starts .entry)) a 0)) (linkOf (now (before .entry)) a)) (orElse (meeting (λ b. eqb (getD (now (ends .entry)) b 0 + way) (getD (now (starts .entry)) a 0)) task) (firstMeeting (λ b. eqb (getD (now (ends .entry)) b 0) (getD (now (starts .entry)) a 0)) (p .predecessors a)))) ⌝ }
+    ensures { λ r. ⌜ ((p : Problem) → Tabled p (now (table .entry)) → a < p .n → p .n ≤ 128 → r ≡ orElse (meeting (λ b. eqb (getD (now (ends .entry)) b 0) (getD (now (starts .entry)) a 0)) (linkOf (now (before .entry)) a)) (orElse (meeting (λ b. eqb (getD (now (ends .entry)) b 0 + way) (getD (now (starts .entry)) a 0)) task) (firstMeeting (λ b. eqb (getD (now (ends .entry)) b 0) (getD (now (starts .entry)) a 0)) (p .predecessors a)))) ⌝ }
 {
     let start = starts[a];
     let line = graph::link_of(before, a);

@@ -1,7 +1,7 @@
 -- `path::critical_path` meets its contract. The loop's invariant, for whatever problem and lines are shown: what is left to walk, before
 -- the path so far, is the whole path; the cells before it are as they were.
-use Prim.Native.Nat.{_<_, _-_}
-use mathlib.Core.Path.{_≡_, refl, sym, ap, _∙_}
+use Prim.Native.Nat.{_-_}
+use mathlib.Core.Path.{refl, sym, _∙_}
 use native.Mathlib.Omega.{arith}
 use borrow.Author.Needs.{needs}
 use denote.Ref.{now}
@@ -31,9 +31,10 @@ loop-holds : tie.Need-loop-holds Inv-loop μ-loop
 loop-holds c =
     let b = c .before .before .before .before .before .before .before .before in
     let w = b .pre .0 .walkable in
-    let k = begin w (now (b .args .path)) (c .last-to-end .result) (b .pre .1) (c .last-to-end .ensures) in
-    (record { room = omega (arith, w .some, w .ordered, b .pre .1); within = omega arith; sized = refl; kept = refl; standing = omega (arith, k .known, w .shown .standing) },
-    λ p lines v. begin v (now (b .args .path)) (c .last-to-end .result) (b .pre .1) (c .last-to-end .ensures))
+    let k = begin w (now (b .args .path)) (c .last-to-end .result) (b .pre .1) (c .last-to-end .ensures) in (
+      record { room = omega (arith, w .some, w .ordered, b .pre .1); within = omega arith; sized = refl; kept = refl; standing = omega (arith, k .known, w .shown .standing) },
+      λ p lines v. begin v (now (b .args .path)) (c .last-to-end .result) (b .pre .1) (c .last-to-end .ensures),
+    )
 
 before-of-requires : tie.Need-before-of-requires Inv-loop μ-loop
 before-of-requires c κs =
@@ -106,19 +107,20 @@ loop-again c =
     let l = c .before .before .before .before .before .before .before .before .before .loop in
     let k = l .inv .1 (b .pre .0 .problem) (b .pre .0 .lines) w in
     let next : (p : Problem) (lines : Lines) (v : Walkable p lines (now (b .args .table)) (now (b .args .before)) (now (b .args .machines)) (b .args .t4) (placed (now (b .args .order)) (now (b .args .starts)) (now (b .args .ends)))) → Walking p lines (placed (now (b .args .order)) (now (b .args .starts)) (now (b .args .ends))) (v .falling .rank) (set (l .path) (l .at - 1) (l .a)) (c .before .b .given .0 .0) (l .at - 1) =
-        λ p lines v.
-        let q = l .inv .1 p lines v in
-        goes v q (l .inv .0 .within) (c .before .b .given .0 .0)
-        (sym (c .before .b .given .1) ∙ back-is v (l .a) (q .known) (c .before .before .before .before .before .before .before .before .before-of .ensures p (v .shown .tabled) (q .known)) (c .before .before .before .before .before .before .before .machine-before .ensures) (c .before .before .before .before .wide .ensures .0) (c .before .before .before .back-of .ensures p (v .shown .tabled) (q .known) (v .shown .few))) in
-    let n = next (b .pre .0 .problem) (b .pre .0 .lines) w in
-    (record {
-      room = omega (arith, n .high);
-      within = omega (arith, l .inv .0 .within, length-set (l .path) (l .at - 1) (l .a));
-      sized = simp length-set (l .inv .0 .sized);
-      kept = kept-below (now (b .args .path)) (l .path) (l .at) (l .a) (l .inv .0 .kept);
-      standing = omega (arith, n .known, w .shown .standing);
-    },
-    next)
+    λ p lines v.
+    let q = l .inv .1 p lines v in
+    goes v q (l .inv .0 .within) (c .before .b .given .0 .0)
+    (sym (c .before .b .given .1) ∙ back-is v (l .a) (q .known) (c .before .before .before .before .before .before .before .before .before-of .ensures p (v .shown .tabled) (q .known)) (c .before .before .before .before .before .before .before .machine-before .ensures) (c .before .before .before .before .wide .ensures .0) (c .before .before .before .back-of .ensures p (v .shown .tabled) (q .known) (v .shown .few))) in
+    let n = next (b .pre .0 .problem) (b .pre .0 .lines) w in (
+      record {
+        room = omega (arith, n .high);
+        within = omega (arith, l .inv .0 .within, length-set (l .path) (l .at - 1) (l .a));
+        sized = simp length-set (l .inv .0 .sized);
+        kept = kept-below (now (b .args .path)) (l .path) (l .at) (l .a) (l .inv .0 .kept);
+        standing = omega (arith, n .known, w .shown .standing);
+      },
+      next,
+    )
 
 same-length : tie.Need-same-length Inv-loop μ-loop
 same-length c = simp length-set (c .before .before .before .before .before .before .before .before .loop .inv .0 .sized)
@@ -128,12 +130,13 @@ returns c =
     let b = c .before .before .before .before .before .before .before .before .before .before .before .before .before .before .before .before .before in
     let w = b .pre .0 .walkable in
     let l = c .before .before .before .before .before .before .before .before .loop in
-    let k = l .inv .1 (b .pre .0 .problem) (b .pre .0 .lines) w in
-    (λ p lines v.
-    let q = l .inv .1 p lines v in
-    stops v q (l .inv .0 .within)
-    (sym (c .enum-told .given .1) ∙ back-is v (l .a) (q .known) (c .before .before .before .before .before .before .before .before-of .ensures p (v .shown .tabled) (q .known)) (c .before .before .before .before .before .before .machine-before .ensures) (c .before .before .before .wide .ensures .0) (c .before .before .back-of .ensures p (v .shown .tabled) (q .known) (v .shown .few))),
-    (omega (arith, l .inv .0 .room, l .inv .0 .within, l .inv .0 .sized), kept-below (now (b .args .path)) (l .path) (l .at) (l .a) (l .inv .0 .kept)))
+    let k = l .inv .1 (b .pre .0 .problem) (b .pre .0 .lines) w in (
+      λ p lines v.
+          let q = l .inv .1 p lines v in
+          stops v q (l .inv .0 .within)
+          (sym (c .enum-told .given .1) ∙ back-is v (l .a) (q .known) (c .before .before .before .before .before .before .before .before-of .ensures p (v .shown .tabled) (q .known)) (c .before .before .before .before .before .before .machine-before .ensures) (c .before .before .before .wide .ensures .0) (c .before .before .back-of .ensures p (v .shown .tabled) (q .known) (v .shown .few))),
+      (omega (arith, l .inv .0 .room, l .inv .0 .within, l .inv .0 .sized), kept-below (now (b .args .path)) (l .path) (l .at) (l .a) (l .inv .0 .kept)),
+    )
 
 pub critical-path-spec : {M : Type 1} → statement M
 critical-path-spec =

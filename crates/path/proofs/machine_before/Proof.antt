@@ -1,11 +1,9 @@
 -- `path::machine_before` meets its contract: the link opened, and a cell.
-use mathlib.Core.Path.{sym, ap}
 use native.Mathlib.Omega.{arith}
 use borrow.Author.Needs.{needs}
 use denote.Ref.{now}
 use lib.ListN.{length}
 use Rattle.bounds.proofs.ArrivalLaws.{link-names}
-use Rattle.path.specs.Path.{machineBefore}
 use Rattle.path.proofs.machine_before.Statement.{statement}
 use Rattle.path.proofs.machine_before.Tie as tie
 

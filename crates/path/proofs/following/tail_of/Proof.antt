@@ -1,10 +1,10 @@
 -- `path::following::tail_of` meets its contract: the greatest over a link, another, then a list is that over all three.
 use Prim.Native.Nat.{ℕ, _+_, _-_}
-use mathlib.Core.Path.{sym, ap, _∙_}
+use mathlib.Core.Path.{ap, _∙_}
 use mathlib.Core.List.{List}
 use borrow.Author.Needs.{needs}
 use denote.Ref.{now}
-use lib.ListN.{length, getD}
+use lib.ListN.{getD}
 use Rattle.graph.specs.Links.{linked, linkOf}
 use Rattle.graph.specs.Shop.{greatest}
 use Rattle.graph.specs.declared.Link.{Link}

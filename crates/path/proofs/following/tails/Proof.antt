@@ -56,12 +56,13 @@ slice-write-tail c =
 
 loop-again : tie.Need-loop-again Inv-loop μ-loop
 loop-again c =
-    let l = c .before .before .before .before in
-    (omega (arith, l .loop .inv .0),
-    simp length-set (l .loop .inv .1),
-    λ p lines w k.
-    let held = l .loop .inv .2 p lines w k in
-    again w held (c .before .before .before .loop-test .taken) (c .tail-of .ensures p (w .tabled) (known w held (c .before .before .before .loop-test .taken)) (w .few) (w .linked)))
+    let l = c .before .before .before .before in (
+      omega (arith, l .loop .inv .0),
+      simp length-set (l .loop .inv .1),
+      λ p lines w k.
+          let held = l .loop .inv .2 p lines w k in
+          again w held (c .before .before .before .loop-test .taken) (c .tail-of .ensures p (w .tabled) (known w held (c .before .before .before .loop-test .taken)) (w .few) (w .linked)),
+    )
 
 same-length : tie.Need-same-length Inv-loop μ-loop
 same-length c =
