@@ -1,0 +1,11 @@
+pub mod LastLaws
+pub mod MeetingLaws
+pub mod TailLaws
+pub mod NeighbourLaws
+pub mod SettingLaws
+pub mod BackLaws
+pub mod WalkLaws
+pub mod FallingLaws
+pub mod BoundLaws
+pub mod Worked
+pub mod TimedLaws

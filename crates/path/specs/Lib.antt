@@ -1,0 +1,5 @@
+pub mod Placing
+pub mod Path
+pub mod Walking
+pub mod Tails
+pub mod Following
