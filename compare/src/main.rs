@@ -21,7 +21,7 @@ const USAGES: [&str; 12] = [
     "check [N]",
     "intake-check PROGRAM [N]",
     "time-check [N]",
-    "time-bench [--only SIDE SIZE TIMES]",
+    "time-bench [--only SIDE PLAN TIMES]",
     "store [FOLDER]",
     "answers-check [FOLDER]",
 ];
@@ -103,11 +103,9 @@ fn dispatch(arguments: &[OsString]) -> Result<Said, String> {
         ["time-check"] => Ok(time_check::check(TIMINGS)?.into()),
         ["time-check", inputs] => Ok(time_check::check(number(inputs, "a number of inputs")?)?.into()),
         ["time-bench"] => Ok(time_bench::bench()?.into()),
-        ["time-bench", "--only", side, size, times] => {
-            let side =
-                Side::named(side).ok_or_else(|| format!("sides are rust and proved, not '{}'", side.escape_debug()))?;
-            let [size, times] = [number(size, "a size")?, number(times, "a number of timings")?];
-            Ok(time_bench::only(side, size as usize, times as usize)?.into())
+        ["time-bench", "--only", side, plan, times] => {
+            let times = number(times, "a number of timings")?;
+            Ok(time_bench::only(side_of(side)?, plan, times as usize)?.into())
         }
         ["store"] => Ok(store::store(store::FOLDER.as_ref())?.into()),
         ["store", _] => Ok(store::store(file(1).as_ref())?.into()),
@@ -212,4 +210,8 @@ fn number(word: &str, what: &str) -> Result<u64, String> {
 fn class_of(name: &str) -> Result<Class, String> {
     let known = || Class::ALL.map(|class| format!(" {}", class.name())).concat();
     Class::named(name).ok_or_else(|| format!("no class '{}'; classes are{}", name.escape_debug(), known()))
+}
+
+fn side_of(name: &str) -> Result<Side, String> {
+    Side::named(name).ok_or_else(|| format!("no side '{}'; sides are rust, proved", name.escape_debug()))
 }
