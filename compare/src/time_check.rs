@@ -432,7 +432,7 @@ fn break_lines(given: &mut Given, plan: &Plan, rng: &mut Rng) -> &'static str {
     let machine = rng.pick(&filled);
     let at = STRETCH * machine + rng.index(given.lens[machine]);
     let last = STRETCH * machine + given.lens[machine] - 1;
-    let other = rng.index(MACHINES);
+    let other = rng.index(machines);
     let free = STRETCH * other + given.lens[other];
     match rng.below(8) {
         0 => {
@@ -469,6 +469,59 @@ fn break_lines(given: &mut Given, plan: &Plan, rng: &mut Rng) -> &'static str {
         _ => {
             given.lens = [0; MACHINES];
             "no lines at all"
+        }
+    }
+}
+
+#[cfg(test)]
+mod tests {
+    use super::*;
+
+    /// The number that lines given are due, 0 where they are timed.
+    fn due(plan: &Plan, given: &Given) -> usize {
+        let timed = timing::lines_given(plan, given).and_then(|lines| timing::time(plan, &lines));
+        timed.map_or_else(|refused| refused.number as usize, |_| 0)
+    }
+
+    #[test]
+    fn lines_are_what_they_are_called() {
+        let mut rng = Rng::new(1);
+        let (mut shuffled, mut mild, mut broken) = ([0; 9], [0; 9], BTreeMap::new());
+        for class in Class::ALL {
+            for seed in 0..60 {
+                let plan = generate::plan(seed, class);
+                let fitting = dealt(generate::sequence(&plan, &mut rng), &plan, &mut rng);
+                assert_eq!(due(&plan, &given(&fitting, &mut rng)), 0, "{} {seed}", class.name());
+                mild[due(&plan, &given(&changed(fitting.clone(), &mut rng), &mut rng))] += 1;
+                let mut all: Vec<usize> = (0..plan.activities.len()).collect();
+                rng.shuffle(&mut all);
+                shuffled[due(&plan, &given(&dealt(all, &plan, &mut rng), &mut rng))] += 1;
+                let mut lines = given(&fitting, &mut rng);
+                let kind = break_lines(&mut lines, &plan, &mut rng);
+                assert_eq!(due(&plan, &lines), 7, "{} {seed}: {kind}", class.name());
+                *broken.entry(kind).or_insert(0) += 1;
+            }
+        }
+        assert!(mild[0] > 300 && mild[8] > 100 && mild[7] == 0, "{mild:?}");
+        assert!(shuffled[0] > 50 && shuffled[8] > 300 && shuffled[7] == 0, "{shuffled:?}");
+        assert!(broken.len() == 7 && broken.values().all(|&count| count > 30), "{broken:?}");
+    }
+
+    #[test]
+    fn every_place_of_the_buffers_is_looked_at() {
+        let before = buffers([128, 129, 130, 131, 132], &mut Rng::new(2));
+        assert_eq!(differing(&before, &before.clone()), None);
+        let change: [fn(&mut Buffers); 5] = [
+            |buffers| buffers.activities[127] ^= 1,
+            |buffers| buffers.machines[128] ^= 1,
+            |buffers| buffers.starts[129] ^= 1 << 63,
+            |buffers| buffers.ends[0] ^= 1,
+            |buffers| buffers.setups[131] ^= 1,
+        ];
+        for change in change {
+            let mut after = before.clone();
+            change(&mut after);
+            assert!(differing(&before, &after).is_some());
         }
     }
 }
