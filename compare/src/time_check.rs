@@ -51,6 +51,8 @@ struct Difference {
 /// Runs `inputs` generated inputs, all classes in turns. An error is about the library or the folder of differences.
 pub fn check(inputs: u64) -> Result<Report, String> {
     let library = Library::linked()?;
+    // What an earlier run saved would be taken for this one's.
+    let _ = std::fs::remove_dir_all(FOLDER);
     let turn = |k: u64| (Class::ALL[k as usize % Class::ALL.len()], k / Class::ALL.len() as u64);
     let tallies = spread("time-check", inputs, |k| {
         let (class, seed) = turn(k);
