@@ -1,5 +1,7 @@
 //! Copies the published Rust text into the build folder, bodies unchanged, and appends the one line that lets
 //! `src/probe.rs` see the private items of `local_search`. Nothing of the text stays in the repository.
+//!
+//! Where LAVKKESTO_LIB names the proved library's archive, it is linked and the code is told by `cfg(proved)`.
 
 use std::env;
 use std::fs;
@@ -19,10 +21,30 @@ const TAKEN: [&str; 5] = [
 
 fn main() {
     println!("cargo::rerun-if-env-changed=LAVKKESTO_RUST");
+    println!("cargo::rerun-if-env-changed=LAVKKESTO_LIB");
     println!("cargo::rerun-if-changed=build.rs");
-    if let Err(message) = take() {
+    println!("cargo::rustc-check-cfg=cfg(proved)");
+    if let Err(message) = take().and_then(|()| link()) {
         println!("cargo::error={message}");
     }
+}
+
+/// Links the archive that LAVKKESTO_LIB names, if it names one.
+fn link() -> Result<(), String> {
+    let archive = match env::var_os("LAVKKESTO_LIB") {
+        Some(archive) if !archive.is_empty() => PathBuf::from(archive),
+        _ => return Ok(()),
+    };
+    let name = archive.file_name().and_then(|name| name.to_str());
+    let name = name.and_then(|name| name.strip_prefix("lib")).and_then(|name| name.strip_suffix(".a"));
+    let (Some(name), true, Some(folder)) = (name, archive.is_file(), archive.parent()) else {
+        return Err(format!("LAVKKESTO_LIB: {} is no archive libNAME.a", archive.display()));
+    };
+    println!("cargo::rerun-if-changed={}", archive.display());
+    println!("cargo::rustc-link-search=native={}", folder.display());
+    println!("cargo::rustc-link-lib=static={name}");
+    println!("cargo::rustc-cfg=proved");
+    Ok(())
 }
 
 fn take() -> Result<(), String> {

@@ -3,10 +3,7 @@
 
 use std::collections::BTreeMap;
 use std::fmt::Write;
-use std::panic::{catch_unwind, AssertUnwindSafe};
 use std::path::Path;
-use std::sync::atomic::{AtomicU64, Ordering};
-use std::sync::Mutex;
 
 use crate::damage;
 use crate::generate::{self, Class};
@@ -16,12 +13,11 @@ use crate::paper::{plan_s, OUTCOMES_OF_S, PRINT_OF_S};
 use crate::plan::Plan;
 use crate::published::{Decoder, Published};
 use crate::read::{read, Refused};
+use crate::spread::spread;
 use crate::text;
 
 /// The named plans of this package.
 pub const PLANS: &str = concat!(env!("CARGO_MANIFEST_DIR"), "/plans");
-
-const THREADS: usize = 2;
 
 /// A text for standard output, and how many differences it tells.
 pub struct Report {
@@ -106,42 +102,17 @@ fn turn(k: u64) -> (usize, u64) {
     }
 }
 
-/// What came of each input, with its class. Some threads share the work; the report does not depend on them.
+/// What came of each input, with its class.
 fn generated(inputs: u64) -> Vec<(usize, Tally)> {
-    let next = AtomicU64::new(0);
-    let done = Mutex::new(Vec::new());
-    // A crash is told as a difference, once, and not by every thread in its own words.
-    let hook = std::panic::take_hook();
-    std::panic::set_hook(Box::new(|_| {}));
-    std::thread::scope(|scope| {
-        for _ in 0..THREADS {
-            scope.spawn(|| loop {
-                let k = next.fetch_add(1, Ordering::Relaxed);
-                if k >= inputs {
-                    break;
-                }
-                if k > 0 && k % (inputs / 20).max(500) == 0 {
-                    progress(&format!("check: {k} of {inputs}"));
-                }
-                let (class, seed) = turn(k);
-                let tally = catch_unwind(AssertUnwindSafe(|| of_input(Class::ALL[class], seed)));
-                let tally = tally.unwrap_or_else(|_| crashed(Class::ALL[class], seed));
-                if let Ok(mut done) = done.lock() {
-                    done.push((k, class, tally));
-                }
-            });
-        }
+    let tallies = spread("check", inputs, |k| {
+        let (class, seed) = turn(k);
+        of_input(Class::ALL[class], seed)
     });
-    std::panic::set_hook(hook);
-    let mut done = done.into_inner().unwrap_or_default();
-    done.sort_by_key(|(k, ..)| *k);
-    done.into_iter().map(|(_, class, tally)| (class, tally)).collect()
-}
-
-/// Whether anybody reads it does not matter.
-fn progress(line: &str) {
-    use std::io::Write;
-    let _ = writeln!(std::io::stderr(), "{line}");
+    let with_class = |(k, tally): (usize, Option<Tally>)| {
+        let (class, seed) = turn(k as u64);
+        (class, tally.unwrap_or_else(|| crashed(Class::ALL[class], seed)))
+    };
+    tallies.into_iter().enumerate().map(with_class).collect()
 }
 
 fn crashed(class: Class, seed: u64) -> Tally {

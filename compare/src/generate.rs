@@ -847,14 +847,19 @@ pub fn latest_end() -> Plan {
 
 // ------------------------------------------------------------------------------------------- lines for timing
 
+/// All activities in some order that keeps steps and predecessors: lines dealt from it do not contradict.
+pub fn sequence(plan: &Plan, rng: &mut Rng) -> Vec<usize> {
+    let tasks = plan.tasks.iter().enumerate();
+    let task_of: Vec<usize> = tasks.flat_map(|(task, entry)| vec![task; entry.activities as usize]).collect();
+    some_order(&task_of, &plan.predecessors, rng)
+}
+
 /// Lines to be timed, one for each machine. About half keep steps and predecessors; the rest are shuffled, so
 /// that many contradict, or break number 7.
 pub fn lines(seed: u64, plan: &Plan) -> Vec<Vec<u32>> {
     let mut rng = Rng::new(seed ^ 0x6c69_6e65_735f_6f66);
     let n = plan.activities.len();
-    let task_of: Vec<usize> =
-        plan.tasks.iter().enumerate().flat_map(|(task, entry)| vec![task; entry.activities as usize]).collect();
-    let mut sequence = some_order(&task_of, &plan.predecessors, &mut rng);
+    let mut sequence = sequence(plan, &mut rng);
     match rng.below(10) {
         0..=4 => {}
         // Two neighbours, or a whole shuffle, against the order.

@@ -15,10 +15,15 @@ pub mod lines;
 pub mod modes;
 pub mod paper;
 pub mod plan;
+pub mod proved;
 pub mod published;
 pub mod read;
+pub mod spread;
 pub mod store;
 pub mod text;
+pub mod time_bench;
+pub mod time_check;
+pub mod timing;
 
 #[allow(dead_code)]
 mod standins;

@@ -7,10 +7,11 @@ use std::process::ExitCode;
 
 use compare::generate::{self, Class};
 use compare::modes::{answer, Mode};
-use compare::{check, damage, intake, lines, store, text};
+use compare::time_bench::{self, Side};
+use compare::{check, damage, intake, lines, store, text, time_check};
 
 /// Every way to call the tools; the first one stands for all modes.
-const USAGES: [&str; 10] = [
+const USAGES: [&str; 12] = [
     "MODE [INPUT [LINES]]",
     "to-text [INPUT]",
     "from-text [TEXT]",
@@ -19,6 +20,8 @@ const USAGES: [&str; 10] = [
     "classes",
     "check [N]",
     "intake-check PROGRAM [N]",
+    "time-check [N]",
+    "time-bench [--only SIDE PLAN TIMES]",
     "store [FOLDER]",
     "answers-check [FOLDER]",
 ];
@@ -31,6 +34,9 @@ const INPUTS: u64 = 10_000;
 
 /// How many inputs `intake-check` runs unless it is told.
 const INTAKES: u64 = 100_000;
+
+/// How many inputs `time-check` runs unless it is told.
+const TIMINGS: u64 = 20_000;
 
 /// What goes to standard output, and whether a check found a difference.
 struct Said {
@@ -93,6 +99,13 @@ fn dispatch(arguments: &[OsString]) -> Result<Said, String> {
         ["intake-check", _] => Ok(intake::check(file(1).as_ref(), INTAKES)?.into()),
         ["intake-check", _, inputs] => {
             Ok(intake::check(file(1).as_ref(), number(inputs, "a number of inputs")?)?.into())
+        }
+        ["time-check"] => Ok(time_check::check(TIMINGS)?.into()),
+        ["time-check", inputs] => Ok(time_check::check(number(inputs, "a number of inputs")?)?.into()),
+        ["time-bench"] => Ok(time_bench::bench()?.into()),
+        ["time-bench", "--only", side, plan, times] => {
+            let times = number(times, "a number of timings")?;
+            Ok(time_bench::only(side_of(side)?, plan, times as usize)?.into())
         }
         ["store"] => Ok(store::store(store::FOLDER.as_ref())?.into()),
         ["store", _] => Ok(store::store(file(1).as_ref())?.into()),
@@ -197,4 +210,8 @@ fn number(word: &str, what: &str) -> Result<u64, String> {
 fn class_of(name: &str) -> Result<Class, String> {
     let known = || Class::ALL.map(|class| format!(" {}", class.name())).concat();
     Class::named(name).ok_or_else(|| format!("no class '{}'; classes are{}", name.escape_debug(), known()))
+}
+
+fn side_of(name: &str) -> Result<Side, String> {
+    Side::named(name).ok_or_else(|| format!("no side '{}'; sides are rust, proved", name.escape_debug()))
 }

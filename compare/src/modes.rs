@@ -24,7 +24,10 @@ pub enum Mode {
 }
 
 impl Mode {
-    /// Every mode with its name on the command line.
+    /// How many modes have stored answers: those before the ones that look into the search.
+    pub const STORED: usize = 6;
+
+    /// Every mode with its name on the command line, the stored ones first.
     pub const ALL: [(&'static str, Mode); 10] = [
         ("program", Mode::Program),
         ("improve", Mode::Improve),

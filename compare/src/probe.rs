@@ -39,6 +39,17 @@ impl SchedulingGaProblem {
         Some(sheet(&bench.ix, &bench.placed, bench.fitness))
     }
 
+    /// Times the same lines so often, as `improve` times its moves: tables and scratch are made once. The greatest end
+    /// of the last timing, 0 without one; none where the lines contradict.
+    pub(crate) fn timed_again(&self, genes: &ScheduleChromosome, lines: &[Vec<usize>], times: usize) -> Option<i64> {
+        let mut bench = Bench::new(self, genes, lines)?;
+        let Bench { view, links, ix, seq, scratch, .. } = &mut bench;
+        for _ in 0..times {
+            self.time_sequences(view, ix, std::hint::black_box(seq), links, std::hint::black_box(scratch));
+        }
+        Some(scratch.placed.order.iter().map(|&a| scratch.placed.end[a]).max().unwrap_or(0))
+    }
+
     pub(crate) fn improve_genes(&self, genes: &mut ScheduleChromosome) {
         self.improve(genes);
     }

@@ -61,6 +61,11 @@ impl Published {
         self.problem.timed(&self.genes, lines)
     }
 
+    /// Times the same lines so often; the greatest end of the last timing, none where they contradict.
+    pub fn time_again(&self, lines: &Lines, times: usize) -> Option<i64> {
+        self.problem.timed_again(&self.genes, lines, times)
+    }
+
     pub fn decode(&self, decoder: Decoder) -> Sheet {
         self.problem.placed_by(&self.genes, decoder)
     }

@@ -21,16 +21,6 @@ pub const FOLDER: &str = concat!(env!("CARGO_MANIFEST_DIR"), "/answers");
 /// A file is closed before it would grow beyond this; one long case may.
 const LONGEST_FILE: usize = 140_000;
 
-/// The modes whose prints are stored, in this order. A case on given lines has the last one alone.
-const MODES: [(&str, Mode); 6] = [
-    ("program", Mode::Program),
-    ("improve", Mode::Improve),
-    ("decode", Mode::Decode),
-    ("in-order", Mode::InOrder),
-    ("active", Mode::Active),
-    ("time", Mode::Time),
-];
-
 /// An input, for `time` also with lines as words.
 #[derive(Clone)]
 struct Case {
@@ -44,11 +34,11 @@ impl Case {
         Case { name, input: plan.to_bytes(), lines: None }
     }
 
-    /// The modes' prints, each after the mode's name.
+    /// The stored modes' prints, each after the mode's name; on given lines, of `time` alone.
     fn prints(&self) -> Result<String, String> {
-        let modes = if self.lines.is_some() { &MODES[5..] } else { &MODES[..] };
+        let stored = Mode::ALL[..Mode::STORED].iter();
         let mut prints = String::new();
-        for &(name, mode) in modes {
+        for &(name, mode) in stored.filter(|(_, mode)| self.lines.is_none() || mode.takes_lines()) {
             let _ = write!(prints, "{name}\n{}", answer(&self.input, mode, self.lines.as_deref())?);
         }
         Ok(prints)

@@ -42,7 +42,7 @@ fn said<S: AsRef<OsStr> + std::fmt::Debug>(arguments: &[S], input: &[u8]) -> Str
 #[test]
 fn bad_arguments_are_one_line_and_2() {
     let here = env!("CARGO_MANIFEST_DIR");
-    let bad: [&[&str]; 44] = [
+    let bad: [&[&str]; 51] = [
         &[],
         &["no-such-mode"],
         &[""],
@@ -84,6 +84,13 @@ fn bad_arguments_are_one_line_and_2() {
         &["classes", "1"],
         &["check", "x"],
         &["check", "1", "2"],
+        &["time-check", "x"],
+        &["time-check", "1", "2"],
+        &["time-bench", "x"],
+        &["time-bench", "--only", "rust", "shop-100"],
+        &["time-bench", "--only", "rust", "shop-100", "x"],
+        &["time-bench", "--only", "neither", "shop-100", "1"],
+        &["time-bench", "--only", "rust", "no-such-plan", "1"],
         &["store", "/dev/null/x"],
         &["answers-check", "no/such/folder"],
         &["answers-check", here],
@@ -177,4 +184,24 @@ fn the_tools_fit_together() {
     assert_eq!(said(&["classes"], &[]).lines().count(), 16);
     let report = said(&["check", "32"], &[]);
     assert_eq!(report.lines().last(), Some("check: 32 inputs, 0 differences"));
+}
+
+#[test]
+fn one_side_alone_times_as_often_as_it_is_told() {
+    for plan in ["shop-100", "full-128", "bare-128"] {
+        let end = |times| said(&["time-bench", "--only", "rust", plan, times], &[]);
+        assert_eq!(end("0"), "0\n");
+        assert!(end("1").trim_end().parse::<u64>().is_ok_and(|end| end > 0), "{plan}");
+        assert_eq!(end("1"), end("3"));
+    }
+}
+
+/// The tools that call the proved library say so where it is not linked.
+#[cfg(not(proved))]
+#[test]
+fn without_the_library_it_is_one_line_and_2() {
+    for arguments in [&["time-check"][..], &["time-check", "1"], &["time-bench"]] {
+        is_one_line_and_2(arguments, &[]);
+    }
+    is_one_line_and_2(&["time-bench", "--only", "proved", "shop-100", "1"], &[]);
 }

@@ -1,0 +1,529 @@
+//! `time-check`: the timing calls of the proved library against the published Rust and against document 01's words
+//! (`timing`), on generated plans and on damaged ones, with lines of every kind, in one process.
+
+use std::collections::BTreeMap;
+use std::fmt::Write;
+use std::path::Path;
+
+use crate::answers::Sheet;
+use crate::check::Report;
+use crate::damage;
+use crate::generate::{self, Class, Rng};
+use crate::lines;
+use crate::plan::Plan;
+use crate::proved::{Answer, Buffers, Given, Library, CELLS, MACHINES, STRETCH};
+use crate::published::{beyond_the_rust, Lines, Published};
+use crate::read::{read, Refused};
+use crate::spread::spread;
+use crate::timing;
+
+/// Where the inputs of differences are saved.
+const FOLDER: &str = concat!(env!("CARGO_MANIFEST_DIR"), "/target/differences");
+
+/// So many are told and saved; the others are counted.
+const TOLD: usize = 10;
+
+/// The fewest places that a result buffer may have.
+const PLACES: usize = 128;
+
+const TOO_SHORT: Refused = Refused { number: 6, place: 0 };
+
+/// The sheet that a call must write, or its refusal.
+type Due = Result<Sheet, Refused>;
+
+/// What came of some inputs.
+#[derive(Default)]
+struct Tally {
+    inputs: u64,
+    /// Inputs that no Rust problem can be, or whose setups rest on document 01.
+    beyond: u64,
+    /// How often lines were timed, or refused with 1 to 8.
+    answers: [u64; 9],
+    differences: Vec<Difference>,
+}
+
+struct Difference {
+    what: String,
+    input: Vec<u8>,
+    lines: Option<Given>,
+}
+
+/// Runs `inputs` generated inputs, all classes in turns. An error is about the library or the folder of differences.
+pub fn check(inputs: u64) -> Result<Report, String> {
+    let library = Library::linked()?;
+    // What an earlier run saved would be taken for this one's.
+    let _ = std::fs::remove_dir_all(FOLDER);
+    let turn = |k: u64| (Class::ALL[k as usize % Class::ALL.len()], k / Class::ALL.len() as u64);
+    let tallies = spread("time-check", inputs, |k| {
+        let (class, seed) = turn(k);
+        of_input(library, class, seed)
+    });
+    let mut by_class: BTreeMap<usize, Tally> = BTreeMap::new();
+    for (k, tally) in tallies.into_iter().enumerate() {
+        let (class, seed) = turn(k as u64);
+        add(by_class.entry(class as usize).or_default(), tally.unwrap_or_else(|| crashed(class, seed)));
+    }
+    let mut all = Tally::default();
+    all.differences.extend(of_extremes(library));
+    let numbers: String = (1..=8).map(|number| format!("{number:>9}")).collect();
+    let mut text = format!("{:<18}{:>8}{:>9}{:>9}{numbers}\n", "class", "inputs", "beyond", "timed");
+    for (class, tally) in by_class {
+        put_row(&mut text, Class::ALL[class].name(), &tally);
+        add(&mut all, tally);
+    }
+    put_row(&mut text, "all", &all);
+    for difference in all.differences.iter().take(TOLD).enumerate() {
+        let _ = writeln!(text, "difference: {}", saved(difference)?);
+    }
+    let (calls, differences) = (all.answers.iter().sum::<u64>(), all.differences.len());
+    let _ = writeln!(text, "time-check: {inputs} inputs, {calls} calls, {differences} differences");
+    Ok(Report { text, differences })
+}
+
+fn put_row(text: &mut String, name: &str, tally: &Tally) {
+    let answers = tally.answers.map(|count| format!("{count:>9}")).concat();
+    let _ = writeln!(text, "{name:<18}{:>8}{:>9}{answers}", tally.inputs, tally.beyond);
+}
+
+fn add(to: &mut Tally, from: Tally) {
+    to.inputs += from.inputs;
+    to.beyond += from.beyond;
+    to.answers.iter_mut().zip(from.answers).for_each(|(to, from)| *to += from);
+    to.differences.extend(from.differences);
+}
+
+fn crashed(class: Class, seed: u64) -> Tally {
+    let input = generate::plan(seed, class).to_bytes();
+    let difference = Difference { what: format!("{} {seed}: a crash", class.name()), input, lines: None };
+    Tally { inputs: 1, differences: vec![difference], ..Tally::default() }
+}
+
+/// The difference with the names of the files that its input and its lines are saved in.
+fn saved((k, difference): (usize, &Difference)) -> Result<String, String> {
+    let failed = |path: &Path, why: std::io::Error| format!("{}: {why}", path.display());
+    let folder = Path::new(FOLDER);
+    std::fs::create_dir_all(folder).map_err(|why| failed(folder, why))?;
+    let save = |kind: &str, bytes: &[u8]| {
+        let path = folder.join(format!("{}.{kind}", k + 1));
+        std::fs::write(&path, bytes).map_err(|why| failed(&path, why))?;
+        Ok::<_, String>(path.display().to_string())
+    };
+    let mut told = format!("{}; input saved as {}", difference.what, save("input", &difference.input)?);
+    match difference.lines.as_ref().map(as_words) {
+        Some(Some(words)) => told += &format!(", lines as {}", save("lines", &words)?),
+        Some(None) => told += ", its lines are none that words can say",
+        None => {}
+    }
+    Ok(told)
+}
+
+/// Lines as a file holds them; none where a cell is no word or a line leaves its stretch.
+fn as_words(given: &Given) -> Option<Vec<u8>> {
+    let line = |machine: usize| -> Option<Vec<u32>> {
+        let stretch = given.cells.get(STRETCH * machine..STRETCH * (machine + 1))?;
+        stretch.get(..given.lens[machine])?.iter().map(|&cell| u32::try_from(cell).ok()).collect()
+    };
+    let lines: Vec<Vec<u32>> = (0..MACHINES).map(line).collect::<Option<_>>()?;
+    Some(lines::to_bytes(&lines))
+}
+
+// -------------------------------------------------------------------------------------------------- one input
+
+/// A plan of a class, and the same with some faults.
+fn of_input(library: Library, class: Class, seed: u64) -> Tally {
+    let plan = generate::plan(seed, class);
+    let mut run = Run::new(library, format!("{} {seed}", class.name()), seed ^ (class as u64) << 40);
+    run.tally.inputs = 1;
+    run.tally.beyond = u64::from(!beyond_the_rust(&plan).is_empty());
+    let lines = run.accepted(&plan);
+    let bytes = damage::damage(&plan.to_bytes(), seed ^ (class as u64) << 40);
+    run.name += ", damaged";
+    match read(&bytes) {
+        Ok(plan) => drop(run.accepted(&plan)),
+        Err(refused) => run.refused(&bytes, &lines, refused),
+    }
+    run.tally
+}
+
+/// The longest input and the latest end.
+fn of_extremes(library: Library) -> Vec<Difference> {
+    let extremes = [("the longest input", generate::longest_input()), ("the latest end", generate::latest_end())];
+    let of = |(name, plan): (&str, Plan)| {
+        let mut run = Run::new(library, name.to_string(), 0);
+        run.accepted(&plan);
+        run.tally.differences
+    };
+    extremes.into_iter().flat_map(of).collect()
+}
+
+/// Calls of the library, each held against what is due.
+struct Run {
+    library: Library,
+    name: String,
+    rng: Rng,
+    tally: Tally,
+}
+
+impl Run {
+    fn new(library: Library, name: String, seed: u64) -> Run {
+        Run { library, name, rng: Rng::new(seed ^ 0x7469_6d65_5f63_6865), tally: Tally::default() }
+    }
+
+    /// Every kind of lines for an accepted plan; returns lines that fit it.
+    fn accepted(&mut self, plan: &Plan) -> Lines {
+        let bytes = plan.to_bytes();
+        let mut rust = Published::new(plan);
+        let of_order = timing::lines_of_order(plan);
+        if of_order.as_ref().ok() != rust.lines().as_ref() {
+            self.tell("the Rust and the paper's words give other lines of the order".to_string(), &bytes, None);
+        }
+        let due = of_order.clone().and_then(|lines| self.due(plan, &rust, &lines));
+        self.in_order(&bytes, &due);
+        let dealt = dealt(generate::sequence(plan, &mut self.rng), plan, &mut self.rng);
+        let base = of_order.clone().unwrap_or_else(|_| dealt.clone());
+        let mut shuffled: Vec<usize> = (0..plan.activities.len()).collect();
+        self.rng.shuffle(&mut shuffled);
+        let random = self::dealt(shuffled, plan, &mut self.rng);
+        let kinds = [
+            ("the order's lines", base.clone()),
+            ("dealt lines", dealt.clone()),
+            ("random lines", random),
+            ("lines a little changed", changed(base.clone(), &mut self.rng)),
+            ("dealt lines a little changed", changed(dealt.clone(), &mut self.rng)),
+        ];
+        for (kind, lines) in kinds {
+            rust = rust.with_lines(&lines);
+            let due = self.due(plan, &rust, &lines);
+            if kind == "dealt lines" && due.is_err() {
+                self.tell("lines that fit the plan are due a refusal".to_string(), &bytes, None);
+            }
+            let given = given(&lines, &mut self.rng);
+            if timing::lines_given(plan, &given).as_ref() != Ok(&lines) {
+                self.tell(format!("{kind} are not read as they are given"), &bytes, Some(&given));
+            }
+            self.on_lines(kind, &bytes, &given, &due);
+        }
+        for _ in 0..2 {
+            self.damaged_lines(plan, &bytes, &base);
+        }
+        self.too_short(&bytes, &base);
+        dealt
+    }
+
+    /// What the Rust and the paper's words both say of lines.
+    fn due(&mut self, plan: &Plan, rust: &Published, lines: &Lines) -> Due {
+        let due = timing::time(plan, lines);
+        let by_rust = rust.time(lines).ok_or(Refused { number: 8, place: 0 });
+        if due != by_rust {
+            let given = given(lines, &mut self.rng);
+            self.tell("the Rust and the paper's words time otherwise".to_string(), &plan.to_bytes(), Some(&given));
+        }
+        by_rust
+    }
+
+    /// Lines that break number 7 in one way.
+    fn damaged_lines(&mut self, plan: &Plan, bytes: &[u8], lines: &Lines) {
+        let mut given = given(lines, &mut self.rng);
+        let kind = break_lines(&mut given, plan, &mut self.rng);
+        let due = timing::lines_given(plan, &given);
+        if due != Err(Refused { number: 7, place: 0 }) {
+            self.tell(format!("{kind}: lines are not due number 7"), bytes, Some(&given));
+        }
+        self.on_lines(kind, bytes, &given, &Err(Refused { number: 7, place: 0 }));
+    }
+
+    /// An input that is refused, with any lines; number 6 still comes first.
+    fn refused(&mut self, bytes: &[u8], lines: &Lines, refused: Refused) {
+        self.in_order(bytes, &Err(refused));
+        let mut given = given(lines, &mut self.rng);
+        if self.rng.chance(50) {
+            given.lens = std::array::from_fn(|_| self.rng.below(200) as usize);
+        }
+        self.on_lines("any lines", bytes, &given, &Err(refused));
+        self.too_short(bytes, lines);
+    }
+
+    /// One buffer short, or the cells: number 6.
+    fn too_short(&mut self, bytes: &[u8], lines: &Lines) {
+        let mut given = given(lines, &mut self.rng);
+        let mut places = self.places();
+        let short = |limit: usize, rng: &mut Rng| match rng.below(4) {
+            0 => rng.index(limit),
+            _ => limit - 1,
+        };
+        let buffer = self.rng.index(6);
+        match places.get_mut(buffer) {
+            Some(places) => *places = short(PLACES, &mut self.rng),
+            None => given.cells.truncate(short(CELLS, &mut self.rng)),
+        }
+        self.on_lines_into(places, "something short", bytes, &given, &Err(TOO_SHORT));
+        if buffer < places.len() {
+            self.in_order_into(places, bytes, &Err(TOO_SHORT));
+        } else {
+            self.again("short cells", bytes, &given, &Err(TOO_SHORT));
+        }
+    }
+
+    // ---------------------------------------------------------------------------------------------- the calls
+
+    /// Buffers of 128 places and of more.
+    fn places(&mut self) -> [usize; 5] {
+        std::array::from_fn(|_| PLACES + self.rng.pick(&[0, 0, 1, 72]))
+    }
+
+    fn on_lines(&mut self, kind: &str, bytes: &[u8], given: &Given, due: &Due) {
+        let places = self.places();
+        self.on_lines_into(places, kind, bytes, given, due);
+        self.again(kind, bytes, given, due);
+    }
+
+    fn on_lines_into(&mut self, places: [usize; 5], kind: &str, bytes: &[u8], given: &Given, due: &Due) {
+        let before = buffers(places, &mut self.rng);
+        let mut after = before.clone();
+        let answer = self.library.time(bytes, given, &mut after);
+        self.hold(kind, bytes, Some(given), due, answer, before, &after);
+    }
+
+    fn in_order(&mut self, bytes: &[u8], due: &Due) {
+        let places = self.places();
+        self.in_order_into(places, bytes, due);
+    }
+
+    fn in_order_into(&mut self, places: [usize; 5], bytes: &[u8], due: &Due) {
+        let before = buffers(places, &mut self.rng);
+        let mut after = before.clone();
+        let answer = self.library.time_order(bytes, &mut after);
+        self.hold("in order", bytes, None, due, answer, before, &after);
+    }
+
+    /// Timed once, twice or three times, the greatest end is the same.
+    fn again(&mut self, kind: &str, bytes: &[u8], given: &Given, due: &Due) {
+        let times = 1 + self.rng.index(3);
+        let greatest = |sheet: &Sheet| sheet.rows.iter().map(|row| row.end as u64).max().unwrap_or(0);
+        let (due, end) = (due.as_ref().map_or(0, greatest), self.library.time_again(bytes, given, times));
+        if end != due {
+            self.tell(format!("{kind}, timed {times} times: due end {due}, not {end}"), bytes, Some(given));
+        }
+    }
+
+    /// The answer, the rows, and every other place as it was.
+    #[allow(clippy::too_many_arguments)]
+    fn hold(
+        &mut self,
+        kind: &str,
+        bytes: &[u8],
+        given: Option<&Given>,
+        due: &Due,
+        answer: Answer,
+        before: Buffers,
+        after: &Buffers,
+    ) {
+        self.tally.answers[due.as_ref().map_or_else(|refused| refused.number as usize, |_| 0)] += 1;
+        let due_answer = match due {
+            Ok(sheet) => Answer::Timed { fitness: sheet.fitness },
+            Err(refused) => Answer::Refused(*refused),
+        };
+        if answer != due_answer {
+            self.tell(format!("{kind}: due {due_answer:x?}, not {answer:x?}"), bytes, given);
+        } else if let Some(what) = differing(&written(before, due), after) {
+            self.tell(format!("{kind}: {what}"), bytes, given);
+        }
+    }
+
+    fn tell(&mut self, what: String, input: &[u8], lines: Option<&Given>) {
+        let what = format!("{}: {what}", self.name);
+        self.tally.differences.push(Difference { what, input: input.to_vec(), lines: lines.cloned() });
+    }
+}
+
+/// Buffers of so many places, full of anything.
+fn buffers(places: [usize; 5], rng: &mut Rng) -> Buffers {
+    let mut any = |places: usize| -> Vec<u64> { (0..places).map(|_| rng.next()).collect() };
+    let [activities, machines, starts, ends, setups] = places.map(&mut any);
+    let numbers = |words: Vec<u64>| words.into_iter().map(|word| word as usize).collect();
+    Buffers { activities: numbers(activities), machines: numbers(machines), starts, ends, setups }
+}
+
+/// The buffers with the rows that are due.
+fn written(mut buffers: Buffers, due: &Due) -> Buffers {
+    let rows = due.as_ref().map_or(&[][..], |sheet| &sheet.rows);
+    for (k, row) in rows.iter().enumerate() {
+        buffers.activities[k] = row.activity;
+        buffers.machines[k] = row.machine;
+        buffers.starts[k] = row.start as u64;
+        buffers.ends[k] = row.end as u64;
+        buffers.setups[k] = row.setup as u64;
+    }
+    buffers
+}
+
+/// The first place where the buffers are not as they must be.
+fn differing(due: &Buffers, found: &Buffers) -> Option<String> {
+    let first = |name: &str, due: &[u64], found: &[u64]| {
+        let k = due.iter().zip(found).position(|(due, found)| due != found)?;
+        Some(format!("place {k} of {name} must hold {}, not {}", due[k], found[k]))
+    };
+    let words = |numbers: &[usize]| numbers.iter().map(|&number| number as u64).collect::<Vec<u64>>();
+    first("activities", &words(&due.activities), &words(&found.activities))
+        .or_else(|| first("machines", &words(&due.machines), &words(&found.machines)))
+        .or_else(|| first("starts", &due.starts, &found.starts))
+        .or_else(|| first("ends", &due.ends, &found.ends))
+        .or_else(|| first("setups", &due.setups, &found.setups))
+}
+
+// ------------------------------------------------------------------------------------------------------ lines
+
+/// A sequence of all activities dealt over the machines, sometimes over one alone.
+fn dealt(sequence: Vec<usize>, plan: &Plan, rng: &mut Rng) -> Lines {
+    let mut lines = vec![Vec::new(); plan.transports.len()];
+    let one = rng.chance(10).then(|| rng.index(lines.len()));
+    let assigned = rng.chance(50);
+    for activity in sequence {
+        let own = plan.assignment.get(activity).and_then(|&machine| usize::try_from(machine).ok());
+        let machine = match (one, own) {
+            (Some(one), _) => one,
+            (None, Some(own)) if assigned => own,
+            _ => rng.index(lines.len()),
+        };
+        lines[machine].push(activity);
+    }
+    lines
+}
+
+/// One to three small changes: two neighbours swapped, or one moved to some position of some line.
+fn changed(mut lines: Lines, rng: &mut Rng) -> Lines {
+    for _ in 0..rng.within(1, 3) {
+        let filled: Vec<usize> = (0..lines.len()).filter(|&machine| !lines[machine].is_empty()).collect();
+        let machine = rng.pick(&filled);
+        let at = rng.index(lines[machine].len());
+        if at > 0 && rng.chance(60) {
+            lines[machine].swap(at - 1, at);
+        } else {
+            let moved = lines[machine].remove(at);
+            let to = rng.index(lines.len());
+            let position = rng.index(lines[to].len() + 1);
+            lines[to].insert(position, moved);
+        }
+    }
+    lines
+}
+
+/// Lines as the calls take them; cells outside the lines hold anything, activities among it.
+fn given(lines: &Lines, rng: &mut Rng) -> Given {
+    let cells = CELLS + rng.pick(&[0, 0, 0, 1, 130]);
+    let mut given = Given { cells: (0..cells).map(|_| any_cell(rng)).collect(), lens: [0; MACHINES] };
+    for (machine, line) in lines.iter().enumerate() {
+        given.lens[machine] = line.len();
+        given.cells[STRETCH * machine..][..line.len()].copy_from_slice(line);
+    }
+    given
+}
+
+fn any_cell(rng: &mut Rng) -> usize {
+    let word = rng.next() as usize;
+    match word % 8 {
+        0 => word,
+        _ => word >> 32 & 0x7f,
+    }
+}
+
+/// Breaks number 7 in one way that it names, and says which; the lines were good.
+fn break_lines(given: &mut Given, plan: &Plan, rng: &mut Rng) -> &'static str {
+    let (n, machines) = (plan.activities.len(), plan.transports.len());
+    let filled: Vec<usize> = (0..machines).filter(|&machine| given.lens[machine] > 0).collect();
+    let machine = rng.pick(&filled);
+    let at = STRETCH * machine + rng.index(given.lens[machine]);
+    let last = STRETCH * machine + given.lens[machine] - 1;
+    let other = rng.index(machines);
+    let free = STRETCH * other + given.lens[other];
+    match rng.below(8) {
+        0 => {
+            given.cells.copy_within(at + 1..last + 1, at);
+            given.lens[machine] -= 1;
+            "an activity missing"
+        }
+        1 if given.lens[other] < STRETCH => {
+            given.cells[free] = given.cells[at];
+            given.lens[other] += 1;
+            "an activity twice"
+        }
+        2 if n > 1 => {
+            given.cells[at] = (given.cells[at] + rng.within(1, n as u64 - 1) as usize) % n;
+            "an activity in the place of another"
+        }
+        3 | 4 => {
+            let own = given.cells[at];
+            given.cells[at] = rng.pick(&[n, n + 1, 128, 2_048, 1 << 32 | own, 1 << 63 | own, usize::MAX]).max(n);
+            "an activity of n or above"
+        }
+        5 => {
+            let own = given.lens[machine];
+            given.lens[machine] = rng.pick(&[129, 2_048, 2_049, 1 << 32 | own, 1 << 61 | own, usize::MAX]);
+            "a line longer than 128"
+        }
+        6 if machines < MACHINES => {
+            let above = machines + rng.index(MACHINES - machines);
+            given.cells[STRETCH * above] = given.cells[last];
+            given.lens[above] = 1;
+            given.lens[machine] -= 1;
+            "a machine of R or above"
+        }
+        _ => {
+            given.lens = [0; MACHINES];
+            "no lines at all"
+        }
+    }
+}
+
+#[cfg(test)]
+mod tests {
+    use super::*;
+
+    /// The number that lines given are due, 0 where they are timed.
+    fn due(plan: &Plan, given: &Given) -> usize {
+        let timed = timing::lines_given(plan, given).and_then(|lines| timing::time(plan, &lines));
+        timed.map_or_else(|refused| refused.number as usize, |_| 0)
+    }
+
+    #[test]
+    fn lines_are_what_they_are_called() {
+        let mut rng = Rng::new(1);
+        let (mut shuffled, mut mild, mut broken) = ([0; 9], [0; 9], BTreeMap::new());
+        for class in Class::ALL {
+            for seed in 0..60 {
+                let plan = generate::plan(seed, class);
+                let fitting = dealt(generate::sequence(&plan, &mut rng), &plan, &mut rng);
+                assert_eq!(due(&plan, &given(&fitting, &mut rng)), 0, "{} {seed}", class.name());
+                mild[due(&plan, &given(&changed(fitting.clone(), &mut rng), &mut rng))] += 1;
+                let mut all: Vec<usize> = (0..plan.activities.len()).collect();
+                rng.shuffle(&mut all);
+                shuffled[due(&plan, &given(&dealt(all, &plan, &mut rng), &mut rng))] += 1;
+                let mut lines = given(&fitting, &mut rng);
+                let kind = break_lines(&mut lines, &plan, &mut rng);
+                assert_eq!(due(&plan, &lines), 7, "{} {seed}: {kind}", class.name());
+                *broken.entry(kind).or_insert(0) += 1;
+            }
+        }
+        assert!(mild[0] > 300 && mild[8] > 100 && mild[7] == 0, "{mild:?}");
+        assert!(shuffled[0] > 50 && shuffled[8] > 300 && shuffled[7] == 0, "{shuffled:?}");
+        assert!(broken.len() == 7 && broken.values().all(|&count| count > 30), "{broken:?}");
+    }
+
+    #[test]
+    fn every_place_of_the_buffers_is_looked_at() {
+        let before = buffers([128, 129, 130, 131, 132], &mut Rng::new(2));
+        assert_eq!(differing(&before, &before.clone()), None);
+        let change: [fn(&mut Buffers); 5] = [
+            |buffers| buffers.activities[127] ^= 1,
+            |buffers| buffers.machines[128] ^= 1,
+            |buffers| buffers.starts[129] ^= 1 << 63,
+            |buffers| buffers.ends[0] ^= 1,
+            |buffers| buffers.setups[131] ^= 1,
+        ];
+        for change in change {
+            let mut after = before.clone();
+            change(&mut after);
+            assert!(differing(&before, &after).is_some());
+        }
+    }
+}
