@@ -34,7 +34,10 @@ fn is_roomy(cells: &[usize], a: &[usize], m: &[usize], s: &[u64], e: &[u64], u: 
     if e.len() < 128 {
         return false;
     }
-    128 <= u.len()
+    if u.len() < 128 {
+        return false;
+    }
+    true
 }
 
 // Writes the rows of timed lines.

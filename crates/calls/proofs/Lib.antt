@@ -1,0 +1,2 @@
+pub mod PrefixLaws
+pub mod SheetLaws
