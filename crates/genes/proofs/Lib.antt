@@ -1,0 +1,4 @@
+pub mod HeldLaws
+pub mod TaskLaws
+pub mod IndexedLaws
+pub mod MachineLaws
