@@ -1,4 +1,5 @@
 pub mod HeldLaws
 pub mod TaskLaws
 pub mod IndexedLaws
+pub mod OrderLaws
 pub mod MachineLaws

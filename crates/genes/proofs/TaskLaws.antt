@@ -1,10 +1,10 @@
 -- Laws of tasks whose activities are numbered one task after the other. Assumes nothing.
 use Prim.Native.Nat.{ℕ, zero, suc, _+_, _*_, _-_, _≤_, _<_}
-use mathlib.Core.Path.{_≡_, ap}
+use mathlib.Core.Path.{_≡_, refl, sym, ap, _∙_}
 use mathlib.Core.List.{List}
 use native.Mathlib.Numerals.{add-one}
 use native.Mathlib.Omega.{arith}
-use lib.ListN.{getD}
+use lib.ListN.{length, getD, set, length-set}
 use Rattle.graph.proofs.CountingLaws.{either}
 use Rattle.grammar.specs.Rules.{totalFrom}
 use Rattle.plan.specs.Problem.{Problem, Genes}
@@ -12,17 +12,36 @@ use Rattle.plan.specs.Input.{cell, problemOf}
 use Rattle.plan.specs.Accepted.{Accepted}
 use Rattle.plan.specs.declared.Layout.{Layout}
 use Rattle.plan.proofs.InputLaws.{total-last}
+use Rattle.genes.specs.Held.{filledTo}
+use Rattle.genes.proofs.HeldLaws.{filled-more}
 
--- ---- first activities, from the words
+-- ---- `fill_firsts`: the first activities of t tasks, and the next one
 
-pub first-none : (ws : List ℕ) (z : Layout) → problemOf ws z .first 0 ≡ 0
-unfolding totalFrom
-first-none ws z = omega arith
+pub record Numbering (ws : List ℕ) (z : Layout) (cells₀ cells : List ℕ) (first t : ℕ) : Type 0 where
+  pub within : t ≤ z .tasks
+  pub sized : length cells ≡ length cells₀
+  pub small : first ≤ t * 4294967295
+  pub next : first ≡ problemOf ws z .first t
+  pub held : cells ≡ filledTo (problemOf ws z .first) t cells₀
 
-pub first-next : (ws : List ℕ) (z : Layout) (t : ℕ) → problemOf ws z .first (t + 1) ≡ problemOf ws z .first t + problemOf ws z .steps t
-first-next ws z t =
-    let e : z .at .tasks + 1 + 5 * t + 4 ≡ z .at .tasks + 1 + 5 * t + 4 = omega arith in
-    rw add-one (total-last ws t (z .at .tasks + 1))
+pub number-begin : (ws : List ℕ) (z : Layout) (cells : List ℕ) → Numbering ws z cells cells 0 0
+unfolding totalFrom filledTo
+number-begin ws z cells = record { within = omega arith; sized = refl; small = omega arith; next = refl; held = refl }
+
+module _ {ws : List ℕ} {z : Layout} {cells₀ cells : List ℕ} {first t : ℕ} (w : Numbering ws z cells₀ cells first t) where
+  pub number-again : (steps : ℕ) → t < z .tasks → steps ≤ 4294967295 → steps ≡ problemOf ws z .steps t
+      → Numbering ws z cells₀ (set cells t first) (first + steps) (t + 1)
+  number-again steps h s e =
+      record {
+        within = omega arith;
+        sized = length-set cells t first ∙ w .sized;
+        small = omega (arith, w .small);
+        next = rw (add-one t, w .next, e) (sym (total-last ws t (z .at .tasks + 1)));
+        held = filled-more (problemOf ws z .first) t first cells₀ (w .held) (w .next);
+      }
+
+  pub number-end : z .tasks ≤ t → cells ≡ filledTo (problemOf ws z .first) (z .tasks) cells₀
+  number-end h = w .held ∙ ap (λ (i : ℕ). filledTo (problemOf ws z .first) i cells₀) (omega (arith, w .within))
 
 -- ---- a task's activities
 

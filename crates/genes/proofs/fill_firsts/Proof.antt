@@ -1,28 +1,20 @@
-use Rattle.genes.proofs.TaskLaws.{first-none, first-next}
-use Rattle.genes.proofs.HeldLaws.{filled-none, filled-more}
-use Rattle.genes.specs.Held.{filledTo}
-use Rattle.plan.specs.Input.{problemOf}
-use Rattle.words.specs.Words.{words}
-use lib.ListN.{length, set, length-set}
-use borrow.Author.Needs.{needs}
+use Prim.Native.Nat.{_-_}
 use native.Mathlib.Omega.{arith}
-use mathlib.Core.Path.{_≡_, sym, ap, _∙_}
-use Prim.Native.Nat.{_+_, _*_, _-_, _≤_}
+use borrow.Author.Needs.{needs}
+use Rattle.words.specs.Words.{words}
+use Rattle.genes.proofs.TaskLaws.{Numbering, number-begin, number-again, number-end}
 use Rattle.genes.proofs.fill_firsts.Statement.{statement}
 use Rattle.genes.proofs.fill_firsts.Tie as tie
-use Rattle.genes.proofs.fill_firsts.Reads as reads
-use Rattle.genes.proofs.fill_firsts.Lts as lts
-use Rattle.plan.proofs.steps.Reads as steps-reads
 
 abbrev Inv-loop : tie.InvT-loop
-Inv-loop s z firsts₀ first₀ t₀ firsts first t = (t ≤ z .tasks) × (length firsts ≡ length firsts₀) × (first ≤ t * 4294967295) × (first ≡ problemOf (words s) z .first t) × (firsts ≡ filledTo (problemOf (words s) z .first) t firsts₀)
+Inv-loop s z firsts₀ first₀ t₀ firsts first t = Numbering (words s) z firsts₀ firsts first t
 
 abbrev μ-loop : tie.MeasureT-loop
 μ-loop s z firsts₀ first₀ t₀ firsts first t = z .tasks - t
 
 -- src/lib.rt:21:5
 loop-holds : tie.Need-loop-holds Inv-loop μ-loop
-loop-holds c = search needs
+loop-holds c = number-begin _ _ _
 
 -- src/lib.rt:22:9
 mul-firsts : tie.Need-mul-firsts Inv-loop μ-loop
@@ -54,15 +46,15 @@ loop-less c = search needs
 
 -- src/lib.rt:21:5
 loop-again : tie.Need-loop-again Inv-loop μ-loop
-loop-again c = search needs
+loop-again c = number-again (c .before .before .before .loop .inv) (c .steps .result) (c .before .if1 .taken) (omega arith) (c .steps .ensures)
 
 -- src/lib.rt:15:1
 same-length : tie.Need-same-length Inv-loop μ-loop
-same-length c = c .before .before .loop .inv .1
+same-length c = c .before .before .loop .inv .sized
 
 -- src/lib.rt:15:1
 returns : tie.Need-returns Inv-loop μ-loop
-returns c = search needs
+returns c = number-end (c .before .before .loop .inv) (c .if1 .left)
 
 pub fill-firsts-spec : {M : Type 1} → statement M
 fill-firsts-spec =
