@@ -69,11 +69,11 @@ module _ {g : Genes} {n : ℕ} {cells₀ cells : List ℕ} {all : Bool} {k : ℕ
       let s : g .assigned k ≡ some m = some-is (g .assigned k) m e in
       filling m all h (rw s) (rw (add-one, s, ← w .told) (and-true all))
 
-  pub fill-without : k < n → Nothing ≡ machineOr (g .assigned k) → Filling g n cells₀ (set cells k 0) false (k + 1)
+  pub fill-without : (told : Bool) → told ≡ false → k < n → Nothing ≡ machineOr (g .assigned k) → Filling g n cells₀ (set cells k 0) told (k + 1)
   unfolding assignedBelow
-  fill-without h e =
+  fill-without told f h e =
       let s : g .assigned k ≡ none = none-is (g .assigned k) e in
-      filling 0 false h (rw s) (rw (add-one, s) (and-false (assignedBelow g k)))
+      filling 0 told h (rw s) (f ∙ rw (add-one, s) (and-false (assignedBelow g k)))
 
   pub fill-end : n ≤ k → (all ≡ assignedBelow g n) × (cells ≡ filledTo (assignedTo g) n cells₀)
   fill-end h =

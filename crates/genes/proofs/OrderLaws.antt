@@ -170,11 +170,11 @@ module _ {p : Problem} {g : Genes} (plan : Accepted p g) where
             }
 
         module _ (s : getD named t 0 < p .steps t) where
-          one : indexedFrom p (w .passed) (drop k (g .order)) ≡ (getD firsts t 0 + getD named t 0) ∷ indexedFrom p (t ∷ w .passed) (drop (k + 1) (g .order))
+          one : indexedFrom p (w .passed) (drop k (g .order)) ≡ (p .first t + getD named t 0) ∷ indexedFrom p (t ∷ w .passed) (drop (k + 1) (g .order))
           one =
               ap (indexedFrom p (w .passed)) next
               ∙ taken p (w .passed) t (drop (k + 1) (g .order)) (gives-one p (w .passed) t u (omega (arith, w .counted t u)))
-              ∙ ap (λ (x : ℕ). x ∷ indexedFrom p (t ∷ w .passed) (drop (k + 1) (g .order))) (omega (arith, w .counted t u, w .starts t u))
+              ∙ ap (λ (x : ℕ). x ∷ indexedFrom p (t ∷ w .passed) (drop (k + 1) (g .order))) (omega (arith, w .counted t u))
 
           pub activity-known : getD firsts t 0 + getD named t 0 < p .n
           activity-known = omega (arith, w .starts t u, task-within plan t u)
@@ -182,10 +182,9 @@ module _ {p : Problem} {g : Genes} (plan : Accepted p g) where
           pub has-room : count < p .n
           has-room = omega (arith, filled, ap length one, indexed-few plan)
 
-          pub index-taken : p .n ≤ length cells₀
-              → Indexing p g firsts cells₀ (set cells count (getD firsts t 0 + getD named t 0)) (set named t (getD named t 0 + 1)) (count + 1) (k + 1)
-          index-taken r =
-              let a = getD firsts t 0 + getD named t 0 in
+          pub index-taken : (a : ℕ) → a ≡ p .first t + getD named t 0 → p .n ≤ length cells₀
+              → Indexing p g firsts cells₀ (set cells count a) (set named t (getD named t 0 + 1)) (count + 1) (k + 1)
+          index-taken a e r =
               let l : count < length cells = omega (arith, has-room, w .sized) in
               record {
                 within = omega arith;
@@ -199,7 +198,7 @@ module _ {p : Problem} {g : Genes} (plan : Accepted p g) where
                 rest =
                     ap (λ (x : List ℕ). x ++ indexedFrom p (t ∷ w .passed) (drop (k + 1) (g .order))) (ap (λ (i : ℕ). take i (set cells count a)) (add-one count) ∙ take-suc-set cells count a l)
                     ∙ append-assoc (take count cells) (a ∷ []) (indexedFrom p (t ∷ w .passed) (drop (k + 1) (g .order)))
-                    ∙ ap (λ (x : List ℕ). take count cells ++ x) (sym one)
+                    ∙ ap (λ (x : List ℕ). take count cells ++ x) (ap (λ (x : ℕ). x ∷ indexedFrom p (t ∷ w .passed) (drop (k + 1) (g .order))) e ∙ sym one)
                     ∙ w .rest;
                 kept = λ i b. getD-set-other cells count i a 0 (λ e. absurd (omega arith)) ∙ w .kept i (omega arith);
               }

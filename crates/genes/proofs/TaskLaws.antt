@@ -29,15 +29,15 @@ unfolding totalFrom filledTo
 number-begin ws z cells = record { within = omega arith; sized = refl; small = omega arith; next = refl; held = refl }
 
 module _ {ws : List ℕ} {z : Layout} {cells₀ cells : List ℕ} {first t : ℕ} (w : Numbering ws z cells₀ cells first t) where
-  pub number-again : (steps : ℕ) → t < z .tasks → steps ≤ 4294967295 → steps ≡ problemOf ws z .steps t
-      → Numbering ws z cells₀ (set cells t first) (first + steps) (t + 1)
-  number-again steps h s e =
+  pub number-again : (x steps : ℕ) → x ≡ first → t < z .tasks → steps ≤ 4294967295 → steps ≡ problemOf ws z .steps t
+      → Numbering ws z cells₀ (set cells t x) (first + steps) (t + 1)
+  number-again x steps f h s e =
       record {
         within = omega arith;
-        sized = length-set cells t first ∙ w .sized;
+        sized = length-set cells t x ∙ w .sized;
         small = omega (arith, w .small);
         next = rw (add-one t, w .next, e) (sym (total-last ws t (z .at .tasks + 1)));
-        held = filled-more (problemOf ws z .first) t first cells₀ (w .held) (w .next);
+        held = filled-more (problemOf ws z .first) t x cells₀ (w .held) (f ∙ w .next);
       }
 
   pub number-end : z .tasks ≤ t → cells ≡ filledTo (problemOf ws z .first) (z .tasks) cells₀

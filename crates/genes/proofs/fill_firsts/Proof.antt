@@ -46,7 +46,7 @@ loop-less c = search needs
 
 -- src/lib.rt:21:5
 loop-again : tie.Need-loop-again Inv-loop μ-loop
-loop-again c = number-again (c .before .before .before .loop .inv) (c .steps .result) (c .before .if1 .taken) (omega arith) (c .steps .ensures)
+loop-again c = number-again (c .before .before .before .loop .inv) _ (c .steps .result) (omega arith) (c .before .if1 .taken) (omega arith) (c .steps .ensures)
 
 -- src/lib.rt:15:1
 same-length : tie.Need-same-length Inv-loop μ-loop

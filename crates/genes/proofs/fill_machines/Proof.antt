@@ -3,7 +3,7 @@ use Rattle.plan.specs.Input.{genesOf}
 use Rattle.words.specs.Words.{words}
 use borrow.Author.Needs.{needs}
 use native.Mathlib.Omega.{arith}
-use mathlib.Core.Path.{sym, _∙_}
+use mathlib.Core.Path.{refl, sym, _∙_}
 use Prim.Native.Nat.{_-_}
 use Rattle.genes.proofs.fill_machines.Statement.{statement}
 use Rattle.genes.proofs.fill_machines.Tie as tie
@@ -51,7 +51,7 @@ loop-less c = search needs
 
 -- src/lib.rt:66:5
 loop-again : tie.Need-loop-again Inv-loop μ-loop
-loop-again c = fill-without (c .before .before .before .before .before .loop .inv) (c .before .before .before .if1 .taken) (sym (c .enum-told .given .1) ∙ c .before .before .assigned .ensures)
+loop-again c = fill-without (c .before .before .before .before .before .loop .inv) _ refl (c .before .before .before .if1 .taken) (sym (c .enum-told .given .1) ∙ c .before .before .assigned .ensures)
 
 -- src/lib.rt:74:9
 mul-machines-2 : tie.Need-mul-machines-2 Inv-loop μ-loop

@@ -137,7 +137,7 @@ loop-less-2 c = search needs
 -- src/lib.rt:41:5
 loop-again-2 : tie.Need-loop-again-2 Inv-loop μ-loop
 loop-again-2 c = let n = c .before .before .before .before in let w = here n in let s = fewer c in
-    index-taken (n .before .before .before .before .before .before .before .before .before .pre .1) (n .before .before .loop .inv) (n .naming .result) (w .0) (w .1) (c .before .before .if1 .left) s (n .before .before .before .before .before .before .before .before .before .pre .2)
+    index-taken (n .before .before .before .before .before .before .before .before .before .pre .1) (n .before .before .loop .inv) (n .naming .result) (w .0) (w .1) (c .before .before .if1 .left) s _ (omega (arith, n .before .before .loop .inv .starts (n .naming .result) (c .before .before .if1 .left))) (n .before .before .before .before .before .before .before .before .before .pre .2)
 
 -- src/lib.rt:41:5
 loop-less-3 : tie.Need-loop-less-3 Inv-loop μ-loop
