@@ -3,3 +3,4 @@ pub mod TaskLaws
 pub mod IndexedLaws
 pub mod OrderLaws
 pub mod MachineLaws
+pub mod Worked

@@ -5,7 +5,7 @@ use mathlib.Core.Bool.{Bool, true, false, _&&_}
 use mathlib.Core.List.{List, [], _∷_, _++_, append-nil, append-assoc}
 use native.Mathlib.Numerals.{add-one}
 use native.Mathlib.Omega.{arith}
-use borrow.Author.Tests.{lt-ltb, le-ltb}
+use borrow.Author.Tests.{lt-ltb, le-ltb, ltb-true, ltb-false}
 use lib.Dec.{ltb}
 use lib.ListN.{length, getD, set, take, drop, replicate, length-set, length-append, drop-of-length-le, getD-replicate}
 use lib.Seq.{drop-cons, take-suc-set, length-take-le, getD-set-same, getD-set-other}
@@ -13,12 +13,14 @@ use Rattle.graph.specs.Counting.{countOf, hit}
 use Rattle.graph.specs.Filing.{consIf}
 use Rattle.graph.proofs.CountingLaws.{either, hit-eq, hit-ne, hit-le}
 use Rattle.plan.specs.Problem.{Problem, Genes}
-use Rattle.plan.specs.Input.{cell, wordsFrom, genesOf}
+use Rattle.plan.specs.Input.{cell, wordsFrom, problemOf, genesOf}
 use Rattle.plan.specs.Accepted.{Accepted}
 use Rattle.plan.specs.declared.Layout.{Layout}
 use Rattle.plan.proofs.InputLaws.{length-words-from}
 use Rattle.genes.specs.Indexed.{gives, indexedFrom, indexed}
-use Rattle.genes.specs.Held.{filledTo, Listed}
+use Rattle.genes.specs.Held.{filledTo, Listed, taskIf, taskNamed}
+use Rattle.genes.specs.declared.Naming.{Naming}
+use Rattle.genes.specs.declared.Naming.the-variants.{Task, Unknown}
 use Rattle.genes.proofs.HeldLaws.{filled-at}
 use Rattle.genes.proofs.TaskLaws.{task-within}
 use Rattle.genes.proofs.IndexedLaws.{indexed-few}
@@ -34,9 +36,39 @@ words-at ws (suc n) at (suc k) h = words-at ws n (at + 1) k (omega arith) ∙ ap
 pub order-length : (ws : List ℕ) (z : Layout) → length (genesOf ws z .order) ≡ getD ws (z .at .order) 0
 order-length ws z = length-words-from ws (getD ws (z .at .order) 0) (z .at .order + 1)
 
-pub order-at : (ws : List ℕ) (z : Layout) (k t : ℕ) → k < getD ws (z .at .order) 0 → t ≡ cell ws (z .at .order) 1 k 0 → t ≡ getD (genesOf ws z .order) k 0
-order-at ws z k t h e =
-    e ∙ ap (λ (i : ℕ). getD ws i 0) (omega arith) ∙ sym (words-at ws (getD ws (z .at .order) 0) (z .at .order + 1) k h)
+order-at : (ws : List ℕ) (z : Layout) (k : ℕ) → k < getD ws (z .at .order) 0 → cell ws (z .at .order) 1 k 0 ≡ getD (genesOf ws z .order) k 0
+order-at ws z k h =
+    ap (λ (i : ℕ). getD ws i 0) (omega arith) ∙ sym (words-at ws (getD ws (z .at .order) 0) (z .at .order + 1) k h)
+
+-- the order's k-th word is t
+pub record Word (g : Genes) (k t : ℕ) : Type 0 where
+  pub left : k < length (g .order)
+  pub is : t ≡ getD (g .order) k 0
+
+task-is : (p : Problem) (x t : ℕ) → Task t ≡ taskNamed p x → (t ≡ x) × (x < p .tasks)
+task-is p x t e = by-test (ltb x (p .tasks)) refl e
+  where
+    by-test : (b : Bool) → ltb x (p .tasks) ≡ b → Task t ≡ taskIf b x → (t ≡ x) × (x < p .tasks)
+    by-test true l q = (cc, ltb-true x (p .tasks) l)
+    by-test false l q = let z : _≡_ {A = ℕ} 0 1 = cc in absurd (omega arith)
+
+task-unknown : (p : Problem) (x : ℕ) → Unknown ≡ taskNamed p x → p .tasks ≤ x
+task-unknown p x e = by-test (ltb x (p .tasks)) refl e
+  where
+    by-test : (b : Bool) → ltb x (p .tasks) ≡ b → Unknown ≡ taskIf b x → p .tasks ≤ x
+    by-test true l q = let z : _≡_ {A = ℕ} 0 1 = cc in absurd (omega arith)
+    by-test false l q = ltb-false x (p .tasks) l
+
+module _ (ws : List ℕ) (z : Layout) (k n : ℕ) (e : n ≡ getD ws (z .at .order) 0) (h : k < n) where
+  pub known-word : (t : ℕ) → Task t ≡ taskNamed (problemOf ws z) (cell ws (z .at .order) 1 k 0) → Word (genesOf ws z) k t × (t < z .tasks)
+  known-word t q =
+      let w = task-is (problemOf ws z) (cell ws (z .at .order) 1 k 0) t q in
+      (record { left = omega (arith, order-length ws z); is = w .0 ∙ order-at ws z k (omega arith) }, omega arith)
+
+  pub unknown-word : Unknown ≡ taskNamed (problemOf ws z) (cell ws (z .at .order) 1 k 0)
+      → Word (genesOf ws z) k (cell ws (z .at .order) 1 k 0) × (z .tasks ≤ cell ws (z .at .order) 1 k 0)
+  unknown-word q =
+      (record { left = omega (arith, order-length ws z); is = order-at ws z k (omega arith) }, task-unknown (problemOf ws z) (cell ws (z .at .order) 1 k 0) q)
 
 -- ---- one word
 
@@ -113,16 +145,16 @@ module _ {p : Problem} {g : Genes} (plan : Accepted p g) where
         let l : count ≡ length (indexed p g) = omega (arith, filled, ap length f) in
         (record { whole = l; listed = sym (append-nil (take count cells)) ∙ ap (λ (x : List ℕ). take count cells ++ x) (sym f) ∙ w .rest; kept = w .kept }, omega (arith, l, indexed-few plan))
 
-    module _ (t : ℕ) (h : k < length (g .order)) (q : t ≡ getD (g .order) k 0) where
+    module _ {t : ℕ} (q : Word g k t) where
       next : drop k (g .order) ≡ t ∷ drop (k + 1) (g .order)
-      next = rw (add-one k, q) (drop-cons (g .order) k 0 h)
+      next = rw (add-one k, q .is) (drop-cons (g .order) k 0 (q .left))
 
       -- a naming of a task that there is not
       pub index-unknown : p .tasks ≤ t → Indexing p g firsts cells₀ cells named count (k + 1)
       unfolding countOf
       index-unknown u =
           record {
-            within = omega arith;
+            within = omega (arith, q .left);
             sized = w .sized;
             wide = w .wide;
             starts = w .starts;
@@ -154,7 +186,7 @@ module _ {p : Problem} {g : Genes} (plan : Accepted p g) where
         pub index-surplus : p .steps t ≤ getD named t 0 → Indexing p g firsts cells₀ cells (set named t (getD named t 0 + 1)) count (k + 1)
         index-surplus s =
             record {
-              within = omega arith;
+              within = omega (arith, q .left);
               sized = w .sized;
               wide = length-set named t (getD named t 0 + 1) ∙ w .wide;
               starts = w .starts;
@@ -187,7 +219,7 @@ module _ {p : Problem} {g : Genes} (plan : Accepted p g) where
           index-taken a e r =
               let l : count < length cells = omega (arith, has-room, w .sized) in
               record {
-                within = omega arith;
+                within = omega (arith, q .left);
                 sized = length-set cells count a ∙ w .sized;
                 wide = length-set named t (getD named t 0 + 1) ∙ w .wide;
                 starts = w .starts;

@@ -1,15 +1,21 @@
 // What the genes give: the activities that the Order names, one after the other, and the machine of each.
 ghost use mathlib.Core.Path.{_≡_};
-ghost use Prim.Native.Nat.{_≤_};
+ghost use Prim.Native.Nat.{_≤_, _<_, _^_};
 ghost use lib.ListN.{length};
 ghost use Rattle.words.specs.Words.{words};
-ghost use Rattle.plan.specs.Input.{problemOf, genesOf};
+ghost use Rattle.plan.specs.Input.{cell, problemOf, genesOf};
 ghost use Rattle.plan.specs.Found.{Placed};
 ghost use Rattle.plan.specs.Accepted.{Accepted};
 ghost use Rattle.genes.specs.Indexed.{indexed, assignedTo, allAssigned};
-ghost use Rattle.genes.specs.Held.{filledTo, Listed};
+ghost use Rattle.genes.specs.Held.{filledTo, Listed, taskNamed};
 use plan::Layout;
 use plan::Machine;
+
+// A word of the Order: a task, or a number that no task has.
+pub enum Naming {
+    Task(usize),
+    Unknown,
+}
 
 // The first activity of each task.
 fn fill_firsts(s: &[u8], z: Layout, firsts: &mut [usize])
@@ -23,6 +29,18 @@ fn fill_firsts(s: &[u8], z: Layout, firsts: &mut [usize])
         first += plan::steps(s, z, t) as usize;
         t += 1;
     }
+}
+
+// The task that the k-th word of the Order names.
+fn task_named(s: &[u8], z: Layout, k: usize) -> Naming
+    requires { ⌜ Placed z × (k < 2 ^ 32) ⌝ }
+    ensures { λ r. ⌜ r ≡ taskNamed (problemOf (words (now (s .entry))) z) (cell (words (now (s .entry))) (z .at .order) 1 k 0) ⌝ }
+{
+    let t = plan::naming(s, z, k) as usize;
+    if z.tasks <= t {
+        return Naming::Unknown;
+    }
+    Naming::Task(t)
 }
 
 // The activities that the Order gives, and how many they are. A task's k-th naming is its k-th
@@ -39,11 +57,11 @@ pub fn indexed(s: &[u8], z: Layout, activities: &mut [usize]) -> usize
     let mut count: usize = 0;
     let mut k: usize = 0;
     while k < namings {
-        let t = plan::naming(s, z, k) as usize;
+        let at = k;
         k += 1;
-        if z.tasks <= t {
+        let Naming::Task(t) = task_named(s, z, at) else {
             continue;
-        }
+        };
         let nth = named[t];
         named[t] = nth + 1;
         let steps = plan::steps(s, z, t) as usize;

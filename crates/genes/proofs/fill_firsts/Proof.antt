@@ -1,3 +1,5 @@
+-- `genes::fill_firsts` meets its contract. The loop's invariant: the cells of the tasks passed are filled, and `first` is the next task's first
+-- activity. Assumes nothing.
 use Prim.Native.Nat.{_-_}
 use native.Mathlib.Omega.{arith}
 use borrow.Author.Needs.{needs}
@@ -12,47 +14,36 @@ Inv-loop s z firsts₀ first₀ t₀ firsts first t = Numbering (words s) z firs
 abbrev μ-loop : tie.MeasureT-loop
 μ-loop s z firsts₀ first₀ t₀ firsts first t = z .tasks - t
 
--- src/lib.rt:21:5
 loop-holds : tie.Need-loop-holds Inv-loop μ-loop
 loop-holds c = number-begin _ _ _
 
--- src/lib.rt:22:9
 mul-firsts : tie.Need-mul-firsts Inv-loop μ-loop
 mul-firsts c = search needs
 
--- src/lib.rt:22:9
 slice-write-firsts : tie.Need-slice-write-firsts Inv-loop μ-loop
 slice-write-firsts c = search needs
 
--- src/lib.rt:23:18
 steps-requires : tie.Need-steps-requires Inv-loop μ-loop
 steps-requires c κs = search needs
 
--- src/lib.rt:23:18
 cast-first : tie.Need-cast-first Inv-loop μ-loop
 cast-first c = search needs
 
--- src/lib.rt:23:9
 add-first : tie.Need-add-first Inv-loop μ-loop
 add-first c = search needs
 
--- src/lib.rt:24:9
 add-t : tie.Need-add-t Inv-loop μ-loop
 add-t c = search needs
 
--- src/lib.rt:21:5
 loop-less : tie.Need-loop-less Inv-loop μ-loop
 loop-less c = search needs
 
--- src/lib.rt:21:5
 loop-again : tie.Need-loop-again Inv-loop μ-loop
 loop-again c = number-again (c .before .before .before .loop .inv) _ (c .steps .result) (omega arith) (c .before .if1 .taken) (omega arith) (c .steps .ensures)
 
--- src/lib.rt:15:1
 same-length : tie.Need-same-length Inv-loop μ-loop
 same-length c = c .before .before .loop .inv .sized
 
--- src/lib.rt:15:1
 returns : tie.Need-returns Inv-loop μ-loop
 returns c = number-end (c .before .before .loop .inv) (c .if1 .left)
 

@@ -1,3 +1,5 @@
+-- `genes::fill_machines` meets its contract. The loop's invariant: the cells of the activities passed are filled, and `all` says whether each has
+-- a machine. Assumes nothing.
 use Rattle.genes.proofs.MachineLaws.{Filling, fill-begin, fill-on, fill-without, fill-end}
 use Rattle.plan.specs.Input.{genesOf}
 use Rattle.words.specs.Words.{words}
@@ -7,9 +9,6 @@ use mathlib.Core.Path.{refl, sym, _∙_}
 use Prim.Native.Nat.{_-_}
 use Rattle.genes.proofs.fill_machines.Statement.{statement}
 use Rattle.genes.proofs.fill_machines.Tie as tie
-use Rattle.genes.proofs.fill_machines.Reads as reads
-use Rattle.genes.proofs.fill_machines.Lts as lts
-use Rattle.plan.proofs.assigned.Reads as assigned-reads
 
 abbrev Inv-loop : tie.InvT-loop
 Inv-loop s z machines₀ all₀ a₀ machines all a = Filling (genesOf (words s) z) (z .activities) machines₀ machines all a
@@ -17,63 +16,48 @@ Inv-loop s z machines₀ all₀ a₀ machines all a = Filling (genesOf (words s)
 abbrev μ-loop : tie.MeasureT-loop
 μ-loop s z machines₀ all₀ a₀ machines all a = z .activities - a
 
--- src/lib.rt:66:5
 loop-holds : tie.Need-loop-holds Inv-loop μ-loop
 loop-holds c = fill-begin _ _ _
 
--- src/lib.rt:68:9
 add-a : tie.Need-add-a Inv-loop μ-loop
 add-a c = search needs
 
--- src/lib.rt:69:30
 assigned-requires : tie.Need-assigned-requires Inv-loop μ-loop
 assigned-requires c κs = search needs
 
--- src/lib.rt:69:25
 enum-known-m : tie.Need-enum-known-m Inv-loop μ-loop
 enum-known-m c = search needs
 
--- src/lib.rt:70:13
 enum-told : tie.Need-enum-told Inv-loop μ-loop
 enum-told c = search needs
 
--- src/lib.rt:70:13
 mul-machines : tie.Need-mul-machines Inv-loop μ-loop
 mul-machines c = search needs
 
--- src/lib.rt:70:13
 slice-write-machines : tie.Need-slice-write-machines Inv-loop μ-loop
 slice-write-machines c = search needs
 
--- src/lib.rt:66:5
 loop-less : tie.Need-loop-less Inv-loop μ-loop
 loop-less c = search needs
 
--- src/lib.rt:66:5
 loop-again : tie.Need-loop-again Inv-loop μ-loop
 loop-again c = fill-without (c .before .before .before .before .before .loop .inv) _ refl (c .before .before .before .if1 .taken) (sym (c .enum-told .given .1) ∙ c .before .before .assigned .ensures)
 
--- src/lib.rt:74:9
 mul-machines-2 : tie.Need-mul-machines-2 Inv-loop μ-loop
 mul-machines-2 c = search needs
 
--- src/lib.rt:74:9
 slice-write-machines-2 : tie.Need-slice-write-machines-2 Inv-loop μ-loop
 slice-write-machines-2 c = search needs
 
--- src/lib.rt:66:5
 loop-less-2 : tie.Need-loop-less-2 Inv-loop μ-loop
 loop-less-2 c = search needs
 
--- src/lib.rt:66:5
 loop-again-2 : tie.Need-loop-again-2 Inv-loop μ-loop
 loop-again-2 c = fill-on (c .before .before .before .before .before .before .loop .inv) _ (c .before .before .before .before .if1 .taken) (sym (c .before .m .given .1) ∙ c .before .before .before .assigned .ensures)
 
--- src/lib.rt:59:1
 same-length : tie.Need-same-length Inv-loop μ-loop
 same-length c = c .before .before .loop .inv .sized
 
--- src/lib.rt:59:1
 returns : tie.Need-returns Inv-loop μ-loop
 returns c = fill-end (c .before .before .loop .inv) (c .if1 .left)
 
