@@ -30,6 +30,12 @@ filled-at f (suc k) cells i l h =
     (λ e. subst (λ (j : ℕ). getD (set (filledTo f k cells) k (f k)) j 0 ≡ f j) (sym e) (getD-set-same (filledTo f k cells) k (f k) 0 (omega (arith, filled-length f k cells))))
     (λ ne. getD-set-other (filledTo f k cells) k i (f k) 0 ne ∙ filled-at f k cells i (omega arith) (omega arith))
 
+pub filled-kept : (f : ℕ → ℕ) (k : ℕ) (cells : List ℕ) (i : ℕ) → k ≤ i → getD (filledTo f k cells) i 0 ≡ getD cells i 0
+unfolding filledTo
+filled-kept f zero cells i h = refl
+filled-kept f (suc k) cells i h =
+    getD-set-other (filledTo f k cells) k i (f k) 0 (λ e. absurd (omega arith)) ∙ filled-kept f k cells i (omega arith)
+
 -- ---- one content
 
 -- cells that hold a list, others kept, can only be these

@@ -16,12 +16,12 @@ use Rattle.plan.specs.Accepted.{Accepted}
 use Rattle.genes.specs.Indexed.{gives, indexedFrom, indexed}
 use Rattle.genes.proofs.TaskLaws.{task-within, same-task}
 
-pub both-true : (a b : Bool) → (a && b) ≡ true → (a ≡ true) × (b ≡ true)
+both-true : (a b : Bool) → (a && b) ≡ true → (a ≡ true) × (b ≡ true)
 both-true true b e = (refl, e)
 both-true false b e = let z : _≡_ {A = ℕ} 0 1 = cc in absurd (omega arith)
 
 -- a naming that gives an activity names a task that there is, and there are fewer before than the task has activities
-pub given : (p : Problem) (named : List ℕ) (t : ℕ) → gives p named t ≡ true → (t < p .tasks) × (countOf t named < p .steps t)
+given : (p : Problem) (named : List ℕ) (t : ℕ) → gives p named t ≡ true → (t < p .tasks) × (countOf t named < p .steps t)
 given p named t e =
     let w = both-true (ltb t (p .tasks)) (ltb (countOf t named) (p .steps t)) e in
     (ltb-true _ _ (w .0), ltb-true _ _ (w .1))

@@ -3,4 +3,5 @@ pub mod TaskLaws
 pub mod IndexedLaws
 pub mod OrderLaws
 pub mod MachineLaws
+pub mod LinesLaws
 pub mod Worked

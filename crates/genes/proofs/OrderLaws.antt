@@ -45,6 +45,12 @@ pub record Word (g : Genes) (k t : ℕ) : Type 0 where
   pub left : k < length (g .order)
   pub is : t ≡ getD (g .order) k 0
 
+pub named-unknown : (p : Problem) (x t : ℕ) → t ≡ x → p .tasks ≤ t → Unknown ≡ taskNamed p x
+named-unknown p x t e h = rw (le-ltb x (p .tasks) (omega arith))
+
+pub named-task : (p : Problem) (x t : ℕ) → t ≡ x → t < p .tasks → Task t ≡ taskNamed p x
+named-task p x t e h = rw (lt-ltb x (p .tasks) (omega arith), e)
+
 task-is : (p : Problem) (x t : ℕ) → Task t ≡ taskNamed p x → (t ≡ x) × (x < p .tasks)
 task-is p x t e = by-test (ltb x (p .tasks)) refl e
   where
