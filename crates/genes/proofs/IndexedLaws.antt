@@ -1,14 +1,14 @@
 -- The activities that an order gives: each is one of the plan's, none comes twice, so that they are all of them where they are as many.
 -- Assumes nothing.
-use Prim.Native.Nat.{ℕ, zero, suc, _+_, _≤_, _<_}
-use mathlib.Core.Path.{_≡_, refl, sym, ap, _∙_, subst}
+use Prim.Native.Nat.{ℕ, _+_, _≤_, _<_}
+use mathlib.Core.Path.{_≡_, refl, ap, _∙_, subst}
 use mathlib.Core.Bool.{Bool, true, false, _&&_}
 use mathlib.Core.List.{List, [], _∷_}
 use native.Mathlib.Omega.{arith}
 use borrow.Author.Tests.{ltb-true}
 use lib.Dec.{ltb}
 use lib.ListN.{length}
-use Rattle.graph.specs.Counting.{countOf, hit, Below}
+use Rattle.graph.specs.Counting.{countOf, Below}
 use Rattle.graph.specs.Filing.{consIf}
 use Rattle.graph.proofs.CountingLaws.{either, hit-eq, hit-ne, hit-le, count-all, sumTo-le, sumTo-full}
 use Rattle.plan.specs.Problem.{Problem, Genes}

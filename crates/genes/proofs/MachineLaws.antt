@@ -1,5 +1,5 @@
 -- The machines that the genes give: the loop that fills them in, and that each is one that there is. Assumes nothing.
-use Prim.Native.Nat.{ℕ, zero, suc, _+_, _-_, _≤_, _<_}
+use Prim.Native.Nat.{ℕ, suc, _+_, _-_, _≤_, _<_}
 use mathlib.Core.Path.{_≡_, refl, ap, _∙_}
 use mathlib.Core.Bool.{Bool, true, false, _&&_}
 use mathlib.Core.List.{List, [], _∷_}
@@ -13,7 +13,6 @@ use Rattle.graph.proofs.CountingLaws.{either, below-at}
 use Rattle.plan.specs.Problem.{Problem, Genes}
 use Rattle.plan.specs.Accepted.{Accepted}
 use Rattle.plan.specs.Found.{machineOr}
-use Rattle.plan.specs.declared.Machine.{Machine}
 use Rattle.plan.specs.declared.Machine.the-variants.{On, Nothing}
 use Rattle.genes.specs.Indexed.{assignedTo, assignedBelow}
 use Rattle.genes.specs.Held.{filledTo}

@@ -1,5 +1,5 @@
 -- `indexed`: what is given so far, and what the words left give, is what the whole order gives. Assumes nothing.
-use Prim.Native.Nat.{ℕ, zero, suc, _+_, _*_, _≤_, _<_}
+use Prim.Native.Nat.{ℕ, zero, suc, _+_, _≤_, _<_}
 use mathlib.Core.Path.{_≡_, refl, sym, ap, _∙_, subst}
 use mathlib.Core.Bool.{Bool, true, false, _&&_}
 use mathlib.Core.List.{List, [], _∷_, _++_, append-nil, append-assoc}
@@ -19,7 +19,6 @@ use Rattle.plan.specs.declared.Layout.{Layout}
 use Rattle.plan.proofs.InputLaws.{length-words-from}
 use Rattle.genes.specs.Indexed.{gives, indexedFrom, indexed}
 use Rattle.genes.specs.Held.{filledTo, Listed, taskIf, taskNamed}
-use Rattle.genes.specs.declared.Naming.{Naming}
 use Rattle.genes.specs.declared.Naming.the-variants.{Task, Unknown}
 use Rattle.genes.proofs.HeldLaws.{filled-at}
 use Rattle.genes.proofs.TaskLaws.{task-within}

@@ -4,11 +4,11 @@ use mathlib.Core.Path.{_≡_, refl, sym, ap, _∙_}
 use mathlib.Core.List.{List}
 use native.Mathlib.Numerals.{add-one}
 use native.Mathlib.Omega.{arith}
-use lib.ListN.{length, getD, set, length-set}
+use lib.ListN.{length, set, length-set}
 use Rattle.graph.proofs.CountingLaws.{either}
 use Rattle.grammar.specs.Rules.{totalFrom}
 use Rattle.plan.specs.Problem.{Problem, Genes}
-use Rattle.plan.specs.Input.{cell, problemOf}
+use Rattle.plan.specs.Input.{problemOf}
 use Rattle.plan.specs.Accepted.{Accepted}
 use Rattle.plan.specs.declared.Layout.{Layout}
 use Rattle.plan.proofs.InputLaws.{total-last}

@@ -1,9 +1,9 @@
 -- Document 01's plan S as far as its genes go: two tasks of two activities, the first of each on machine 0, the second on machine 1. Its order as it
 -- comes, one with unknown tasks and surplus namings, and genes with something missing.
-use Prim.Native.Nat.{ℕ, zero, suc, _*_}
+use Prim.Native.Nat.{ℕ, _*_}
 use mathlib.Core.Path.{_≡_, refl}
 use mathlib.Core.Bool.{true, false}
-use mathlib.Core.List.{List, [], _∷_, _++_}
+use mathlib.Core.List.{List, [], _∷_}
 use mathlib.Core.Option.{Option, none, some}
 use lib.Ieee.{fin}
 use lib.IntN.{negsuc}

@@ -12,7 +12,7 @@ use plan::Layout;
 use plan::Machine;
 
 // A word of the Order: a task, or a number that no task has.
-pub enum Naming {
+enum Naming {
     Task(usize),
     Unknown,
 }

@@ -41,7 +41,9 @@ loop-less : tie.Need-loop-less Inv-loop μ-loop
 loop-less c = search needs
 
 loop-again : tie.Need-loop-again Inv-loop μ-loop
-loop-again c = fill-without (c .before .before .before .before .before .loop .inv) _ (cc) (c .before .before .before .if1 .taken) (sym (c .enum-told .given .1) ∙ c .before .before .assigned .ensures)
+loop-again c =
+    fill-without (c .before .before .before .before .before .loop .inv) _ (cc) (c .before .before .before .if1 .taken)
+    (sym (c .enum-told .given .1) ∙ c .before .before .assigned .ensures)
 
 mul-machines-2 : tie.Need-mul-machines-2 Inv-loop μ-loop
 mul-machines-2 c = search needs
@@ -53,7 +55,9 @@ loop-less-2 : tie.Need-loop-less-2 Inv-loop μ-loop
 loop-less-2 c = search needs
 
 loop-again-2 : tie.Need-loop-again-2 Inv-loop μ-loop
-loop-again-2 c = fill-on (c .before .before .before .before .before .before .loop .inv) (c .before .m .given .0 .0) _ (omega arith) (c .before .before .before .before .if1 .taken) (sym (c .before .m .given .1) ∙ c .before .before .before .assigned .ensures)
+loop-again-2 c =
+    fill-on (c .before .before .before .before .before .before .loop .inv) (c .before .m .given .0 .0) _ (omega arith) (c .before .before .before .before .if1 .taken)
+    (sym (c .before .m .given .1) ∙ c .before .before .before .assigned .ensures)
 
 same-length : tie.Need-same-length Inv-loop μ-loop
 same-length c = c .before .before .loop .inv .sized

@@ -12,7 +12,8 @@ use Rattle.genes.proofs.indexed.Statement.{statement}
 use Rattle.genes.proofs.indexed.Tie as tie
 
 abbrev Inv-loop : tie.InvT-loop
-Inv-loop s z activities₀ firsts named₀ namings count₀ k₀ activities named count k = Indexing (problemOf (words s) z) (genesOf (words s) z) firsts activities₀ activities named count k
+Inv-loop s z activities₀ firsts named₀ namings count₀ k₀ activities named count k =
+    Indexing (problemOf (words s) z) (genesOf (words s) z) firsts activities₀ activities named count k
 
 abbrev μ-loop : tie.MeasureT-loop
 μ-loop s z activities₀ firsts named₀ namings count₀ k₀ activities named count k = namings - k
@@ -23,7 +24,8 @@ known : (c : tie.After-t Inv-loop μ-loop)
     Word (genesOf (words (b .args .s .now)) (b .args .z)) (c .before .before .before .before .loop .k) (c .t .given .0 .0) × (c .t .given .0 .0 < b .args .z .tasks)
 known c =
     let b = c .before .before .before .before .before .before .before .before .before .before .before in
-    known-word (words (b .args .s .now)) (b .args .z) (c .before .before .before .before .loop .k) (c .before .before .before .before .before .namings .result) (c .before .before .before .before .before .namings .ensures) (c .before .before .before .loop-test .taken)
+    let o = c .before .before .before .before .before .namings in
+    known-word (words (b .args .s .now)) (b .args .z) (c .before .before .before .before .loop .k) (o .result) (o .ensures) (c .before .before .before .loop-test .taken)
     (c .t .given .0 .0) (sym (c .t .given .1) ∙ c .before .before .task-named .ensures)
 
 -- The task has an activity left for this naming.
@@ -64,66 +66,84 @@ loop-less c = search needs
 loop-again : tie.Need-loop-again Inv-loop μ-loop
 loop-again c = let b = c .before .before .before .before .before .before .before .before .before .before .before in
     let l = c .before .before .before .before .loop in
-    let w = unknown-word (words (b .args .s .now)) (b .args .z) (l .k) (c .before .before .before .before .before .namings .result) (c .before .before .before .before .before .namings .ensures) (c .before .before .before .loop-test .taken) (sym (c .enum-told .given .1) ∙ c .before .before .task-named .ensures) in
+    let o = c .before .before .before .before .before .namings in
+    let w =
+    unknown-word (words (b .args .s .now)) (b .args .z) (l .k) (o .result) (o .ensures) (c .before .before .before .loop-test .taken)
+    (sym (c .enum-told .given .1) ∙ c .before .before .task-named .ensures) in
     index-unknown (b .pre .1) (l .inv) (w .0) (w .1)
 
 mul-nth : tie.Need-mul-nth Inv-loop μ-loop
 mul-nth c = let n = c .before in
+    let b = n .before .before .before .before .before .before .before .before .before .before .before in
     let w = known n in
-    omega (arith, n .before .before .before .before .before .before .before .before .before .before .before .pre .1 .tasks .1)
+    omega (arith, b .pre .1 .tasks .1)
 
 array-read-nth : tie.Need-array-read-nth Inv-loop μ-loop
 array-read-nth c = let n = c .before in
+    let b = n .before .before .before .before .before .before .before .before .before .before .before in
     let w = known n in
-    omega (arith, n .before .before .before .before .before .before .before .before .before .before .before .pre .1 .tasks .1)
+    omega (arith, b .pre .1 .tasks .1)
 
 add-named : tie.Need-add-named Inv-loop μ-loop
 add-named c = let n = c .before in
+    let b = n .before .before .before .before .before .before .before .before .before .before .before in
+    let l = n .before .before .before .before .loop in
     let w = known n in
-    omega (arith, named-few (n .before .before .before .before .before .before .before .before .before .before .before .pre .1) (n .before .before .before .before .loop .inv) (w .0) (w .1), w .0 .left, n .before .before .before .before .before .before .before .before .before .before .before .pre .1 .order)
+    omega (arith, named-few (b .pre .1) (l .inv) (w .0) (w .1), w .0 .left, b .pre .1 .order)
 
 mul-named : tie.Need-mul-named Inv-loop μ-loop
 mul-named c = let n = c .before in
+    let b = n .before .before .before .before .before .before .before .before .before .before .before in
     let w = known n in
-    omega (arith, n .before .before .before .before .before .before .before .before .before .before .before .pre .1 .tasks .1)
+    omega (arith, b .pre .1 .tasks .1)
 
 array-write-named : tie.Need-array-write-named Inv-loop μ-loop
 array-write-named c = let n = c .before in
+    let b = n .before .before .before .before .before .before .before .before .before .before .before in
     let w = known n in
-    omega (arith, n .before .before .before .before .before .before .before .before .before .before .before .pre .1 .tasks .1)
+    omega (arith, b .pre .1 .tasks .1)
 
 steps-requires : tie.Need-steps-requires Inv-loop μ-loop
 steps-requires c κs = let n = c .before in
+    let b = n .before .before .before .before .before .before .before .before .before .before .before in
     let w = known n in
-    (n .before .before .before .before .before .before .before .before .before .before .before .pre .0, omega (arith, n .before .before .before .before .before .before .before .before .before .before .before .pre .1 .tasks .1))
+    (b .pre .0, omega (arith, b .pre .1 .tasks .1))
 
 cast-steps : tie.Need-cast-steps Inv-loop μ-loop
 cast-steps c = search needs
 
 mul-activities : tie.Need-mul-activities Inv-loop μ-loop
 mul-activities c = let n = c .before .before .before in
+    let b = n .before .before .before .before .before .before .before .before .before .before .before in
     let w = known n in
-    omega (arith, n .before .before .before .before .before .before .before .before .before .before .before .pre .1 .tasks .1)
+    omega (arith, b .pre .1 .tasks .1)
 
 array-read-activities : tie.Need-array-read-activities Inv-loop μ-loop
 array-read-activities c = let n = c .before .before .before in
+    let b = n .before .before .before .before .before .before .before .before .before .before .before in
     let w = known n in
-    omega (arith, n .before .before .before .before .before .before .before .before .before .before .before .pre .1 .tasks .1)
+    omega (arith, b .pre .1 .tasks .1)
 
 add-activities : tie.Need-add-activities Inv-loop μ-loop
 add-activities c = let n = c .before .before .before in
+    let b = n .before .before .before .before .before .before .before .before .before .before .before in
+    let l = n .before .before .before .before .loop in
     let w = known n in
-    omega (arith, activity-known (n .before .before .before .before .before .before .before .before .before .before .before .pre .1) (n .before .before .before .before .loop .inv) (w .0) (w .1) (fewer c), n .before .before .before .before .before .before .before .before .before .before .before .pre .0 .activities)
+    omega (arith, activity-known (b .pre .1) (l .inv) (w .0) (w .1) (fewer c), b .pre .0 .activities)
 
 mul-activities-2 : tie.Need-mul-activities-2 Inv-loop μ-loop
 mul-activities-2 c = let n = c .before .before .before in
+    let b = n .before .before .before .before .before .before .before .before .before .before .before in
+    let l = n .before .before .before .before .loop in
     let w = known n in
-    omega (arith, has-room (n .before .before .before .before .before .before .before .before .before .before .before .pre .1) (n .before .before .before .before .loop .inv) (w .0) (w .1) (fewer c), n .before .before .before .before .before .before .before .before .before .before .before .pre .0 .activities)
+    omega (arith, has-room (b .pre .1) (l .inv) (w .0) (w .1) (fewer c), b .pre .0 .activities)
 
 slice-write-activities : tie.Need-slice-write-activities Inv-loop μ-loop
 slice-write-activities c = let n = c .before .before .before in
+    let b = n .before .before .before .before .before .before .before .before .before .before .before in
+    let l = n .before .before .before .before .loop in
     let w = known n in
-    omega (arith, has-room (n .before .before .before .before .before .before .before .before .before .before .before .pre .1) (n .before .before .before .before .loop .inv) (w .0) (w .1) (fewer c), n .before .before .before .before .loop .inv .sized, n .before .before .before .before .before .before .before .before .before .before .before .pre .2)
+    omega (arith, has-room (b .pre .1) (l .inv) (w .0) (w .1) (fewer c), l .inv .sized, b .pre .2)
 
 add-count : tie.Need-add-count Inv-loop μ-loop
 add-count c = search needs
@@ -133,16 +153,20 @@ loop-less-2 c = search needs
 
 loop-again-2 : tie.Need-loop-again-2 Inv-loop μ-loop
 loop-again-2 c = let n = c .before .before .before in
+    let b = n .before .before .before .before .before .before .before .before .before .before .before in
+    let l = n .before .before .before .before .loop in
     let w = known n in
-    index-taken (n .before .before .before .before .before .before .before .before .before .before .before .pre .1) (n .before .before .before .before .loop .inv) (w .0) (w .1) (fewer c) _ (omega (arith, n .before .before .before .before .loop .inv .starts (n .t .given .0 .0) (w .1))) (n .before .before .before .before .before .before .before .before .before .before .before .pre .2)
+    index-taken (b .pre .1) (l .inv) (w .0) (w .1) (fewer c) _ (omega (arith, l .inv .starts (n .t .given .0 .0) (w .1))) (b .pre .2)
 
 loop-less-3 : tie.Need-loop-less-3 Inv-loop μ-loop
 loop-less-3 c = search needs
 
 loop-again-3 : tie.Need-loop-again-3 Inv-loop μ-loop
 loop-again-3 c = let n = c .before .before .before in
+    let b = n .before .before .before .before .before .before .before .before .before .before .before in
+    let l = n .before .before .before .before .loop in
     let w = known n in
-    index-surplus (n .before .before .before .before .before .before .before .before .before .before .before .pre .1) (n .before .before .before .before .loop .inv) (w .0) (w .1) (omega (arith, c .if1 .left, c .before .steps .ensures))
+    index-surplus (b .pre .1) (l .inv) (w .0) (w .1) (omega (arith, c .if1 .left, c .before .steps .ensures))
 
 same-length : tie.Need-same-length Inv-loop μ-loop
 same-length c = search needs
