@@ -4,11 +4,11 @@ use mathlib.Core.Path.{_≡_, refl, sym, ap, _∙_}
 use mathlib.Core.List.{List, [], _∷_, _++_}
 use native.Mathlib.Omega.{arith}
 use lib.ListN.{length, take, drop, replicate, length-append}
-use lib.Seq.{length-take-le, take-append-left, take-all}
+use lib.Seq.{length-take-le}
 
 -- As many of 128 zeros as are lent.
-pub lent : (n : ℕ) → n ≤ 128 → length (take n (replicate 128 0)) ≡ n
-lent n h = length-take-le n (replicate 128 0) h
+pub lent : (n : ℕ) → n ≤ 128 → length {A = ℕ} (take n (replicate 128 0)) ≡ n
+lent n h = length-take-le {A = ℕ} n (replicate 128 0) h
 
 module _ (n : ℕ) (xs ys : List ℕ) (e : length xs ≡ n) where
   -- Given back, they are the first cells again.

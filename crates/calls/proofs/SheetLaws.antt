@@ -54,3 +54,6 @@ roomy-for h r =
       ends = omega (arith, r .ends);
       setups = omega (arith, r .setups);
     }
+
+pub written-as : {x y : Columns} {a₀ m₀ s₀ e₀ u₀ a m s e u : List ℕ} → x ≡ y → Written x a₀ m₀ s₀ e₀ u₀ a m s e u → Written y a₀ m₀ s₀ e₀ u₀ a m s e u
+written-as {x} {y} {a₀} {m₀} {s₀} {e₀} {u₀} {a} {m} {s} {e} {u} q w = subst (λ (c : Columns). Written c a₀ m₀ s₀ e₀ u₀ a m s e u) q w

@@ -9,7 +9,7 @@ ghost use Rattle.words.specs.Words.{words};
 ghost use Rattle.plan.specs.Input.{problemOf};
 ghost use Rattle.lines.specs.Lines.{linesIn, WellFormed};
 ghost use Rattle.timing.specs.Timing.{contradicts};
-ghost use Rattle.timing.specs.Placing.{Seated, Timed};
+ghost use Rattle.timing.specs.Placing.{Seated, Timed, Rooms};
 ghost use Rattle.rows.specs.Rows.{Roomy, Written};
 ghost use Rattle.calls.specs.Outcome.{answerOf, Leaves};
 ghost use Rattle.calls.specs.Timing.{sheetOf, eightIf, timedLines, timed, roomy};
@@ -80,7 +80,45 @@ fn write_sheet(
     );
 }
 
-// Number 8 where the lines contradict, else their rows.
+// Number 8 where the lines contradict, else their rows. The first seven buffers are work space, a cell for each activity.
+fn time_in(
+    s: &[u8],
+    z: Layout,
+    table: &[usize],
+    cells: &[usize],
+    lens: [usize; 16],
+    before: &mut [usize],
+    after: &mut [usize],
+    on: &mut [usize],
+    places: &mut [usize],
+    order: &mut [usize],
+    begun: &mut [u64],
+    done: &mut [u64],
+    activities: &mut [usize],
+    machines: &mut [usize],
+    starts: &mut [u64],
+    ends: &mut [u64],
+    setups: &mut [u64],
+) -> Answer
+    requires { ⌜ Taken (now s) z (now table) × (length (now cells) ≡ 2048) × WellFormed (z .activities) (z .machines) (linesIn (now cells) lens) ⌝ }
+    requires { ⌜ Rooms (z .activities) (now before) (now after) (now on) (now places) (now order) (now begun) (now done) × Roomy 128 (now activities) (now machines) (now starts) (now ends) (now setups) ⌝ }
+    ensures answer { λ r. ⌜ r ≡ answerOf (eightIf (contradicts (problemOf (words (now (s .entry))) z) (linesIn (now (cells .entry)) lens)) (problemOf (words (now (s .entry))) z) (linesIn (now (cells .entry)) lens)) ⌝ }
+    ensures rows { λ _. ⌜ Leaves (eightIf (contradicts (problemOf (words (now (s .entry))) z) (linesIn (now (cells .entry)) lens)) (problemOf (words (now (s .entry))) z) (linesIn (now (cells .entry)) lens)) (now (activities .entry)) (now (machines .entry)) (now (starts .entry)) (now (ends .entry)) (now (setups .entry)) (now (activities .exit)) (now (machines .exit)) (now (starts .exit)) (now (ends .exit)) (now (setups .exit)) ⌝ }
+{
+    let ways = plan::transports(s, z);
+    if !timing::time_sequences(
+        s, z, table, ways, cells, lens, before, after, on, places, order, begun, done,
+    ) {
+        return Answer::Refused(8, 0);
+    }
+    write_sheet(
+        s, z, table, cells, lens, before, on, order, begun, done, activities, machines, starts, ends, setups,
+    );
+    let n = z.activities;
+    Answer::Rows(n, fitness::fitness_of(s, z, done))
+}
+
+// The same with work space of its own.
 fn time_lines(
     s: &[u8],
     z: Layout,
@@ -99,7 +137,6 @@ fn time_lines(
     ensures rows { λ _. ⌜ Leaves (eightIf (contradicts (problemOf (words (now (s .entry))) z) (linesIn (now (cells .entry)) lens)) (problemOf (words (now (s .entry))) z) (linesIn (now (cells .entry)) lens)) (now (activities .entry)) (now (machines .entry)) (now (starts .entry)) (now (ends .entry)) (now (setups .entry)) (now (activities .exit)) (now (machines .exit)) (now (starts .exit)) (now (ends .exit)) (now (setups .exit)) ⌝ }
 {
     let n = z.activities;
-    let ways = plan::transports(s, z);
     let mut before = [0usize; 128];
     let mut after = [0usize; 128];
     let mut on = [0usize; 128];
@@ -107,11 +144,10 @@ fn time_lines(
     let mut order = [0usize; 128];
     let mut begun = [0u64; 128];
     let mut done = [0u64; 128];
-    if !timing::time_sequences(
+    time_in(
         s,
         z,
         table,
-        ways,
         cells,
         lens,
         &mut before[..n],
@@ -121,27 +157,12 @@ fn time_lines(
         &mut order[..n],
         &mut begun[..n],
         &mut done[..n],
-    ) {
-        return Answer::Refused(8, 0);
-    }
-    write_sheet(
-        s,
-        z,
-        table,
-        cells,
-        lens,
-        &before[..n],
-        &on[..n],
-        &order[..n],
-        &begun[..n],
-        &done[..n],
         activities,
         machines,
         starts,
         ends,
         setups,
-    );
-    Answer::Rows(n, fitness::fitness_of(s, z, &done[..n]))
+    )
 }
 
 // Number 7 where the lines do not hold each activity once on the machines that there are.

@@ -2,7 +2,10 @@
 mod placing;
 
 pub use placing::fill_setups;
+pub use placing::machine_before;
 pub use placing::place;
+pub use placing::span_after;
+pub use placing::start_after;
 ghost use mathlib.Core.Path.{_≡_};
 ghost use Prim.Native.Nat.{ℕ, _^_, _≤_, _<_};
 ghost use lib.ListN.{length, getD, take};

@@ -19,7 +19,7 @@ ghost use Rattle.timing.specs.Timing.{setupsOf};
 ghost use Rattle.timing.specs.Placing.{machineBefore, startAfter, Ending, Bound, Seated, Whole, Placement};
 
 // The machine of the step before; 0 where there is none.
-fn machine_before(step: Link, machines: &[usize]) -> usize
+pub fn machine_before(step: Link, machines: &[usize]) -> usize
     requires { ⌜ Below (length (now machines)) (linked step) ⌝ }
     ensures { λ r. ⌜ r ≡ machineBefore step (λ q. getD (now (machines .entry)) q 0) ⌝ }
 {
@@ -30,7 +30,7 @@ fn machine_before(step: Link, machines: &[usize]) -> usize
 }
 
 // How long an activity takes on a machine after another.
-fn span_after(s: &[u8], z: Layout, table: &[usize], a: usize, m: usize, line: Link) -> u64
+pub fn span_after(s: &[u8], z: Layout, table: &[usize], a: usize, m: usize, line: Link) -> u64
     requires { ⌜ Placed z × Accepted (problemOf (words (now s)) z) (genesOf (words (now s)) z) × Tabled (problemOf (words (now s)) z) (now table) ⌝ }
     requires { ⌜ (a < z .activities) × (m < z .machines) × Below (z .activities) (linked line) ⌝ }
     ensures { λ r. ⌜ r ≡ spanOf (problemOf (words (now (s .entry))) z) a m (setupOf (problemOf (words (now (s .entry))) z) a m line) ⌝ }
@@ -41,7 +41,7 @@ fn span_after(s: &[u8], z: Layout, table: &[usize], a: usize, m: usize, line: Li
 
 // The greatest of an activity's release, the end of the one before on its machine, the end of the step before plus the way from its machine,
 // and the ends of all that it names.
-fn start_after(table: &[usize], a: usize, line: Link, step: Link, way: u64, ends: &[u64]) -> u64
+pub fn start_after(table: &[usize], a: usize, line: Link, step: Link, way: u64, ends: &[u64]) -> u64
     requires { ⌜ Bound (now table) (now ends) a × Ending (now ends) line × Ending (now ends) step × (way < 2 ^ 32) ⌝ }
     ensures { λ r. ⌜ ((p : Problem) → Tabled p (now (table .entry)) → a < p .n → p .n ≤ 128 → r ≡ startAfter p a line step way (λ q. getD (now (ends .entry)) q 0)) ⌝ }
 {

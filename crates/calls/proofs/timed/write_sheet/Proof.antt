@@ -7,9 +7,8 @@ use Rattle.words.specs.Words.{words}
 use Rattle.graph.specs.Counting.{Below}
 use Rattle.plan.specs.Input.{problemOf, genesOf}
 use Rattle.lines.specs.Lines.{linesIn}
-use Rattle.rows.specs.Rows.{Columns, Written}
 use Rattle.calls.proofs.PrefixLaws.{lent, prefix-room, prefix-is, prefix-length}
-use Rattle.calls.proofs.SheetLaws.{order-known, begun-length, done-length, sheet-is, roomy-for}
+use Rattle.calls.proofs.SheetLaws.{order-known, begun-length, done-length, sheet-is, roomy-for, written-as}
 use borrow.Author.Needs.{needs}
 use Rattle.calls.proofs.timed.write_sheet.Statement.{statement}
 use Rattle.calls.proofs.timed.write_sheet.Tie as tie
@@ -61,7 +60,7 @@ same-length-5 c = search needs
 returns : tie.Need-returns
 returns c =
     let e = sheet-is (problemOf (words (now (c .before .before .before .before .before .before .before .before .before .before .before .before .before .before .before .before .before .before .before .before .before .before .before .before .before .before .before .before .before .before .before .before .before .args .s))) (c .before .before .before .before .before .before .before .before .before .before .before .before .before .before .before .before .before .before .before .before .before .before .before .before .before .before .before .before .before .before .before .before .before .args .z)) (genesOf (words (now (c .before .before .before .before .before .before .before .before .before .before .before .before .before .before .before .before .before .before .before .before .before .before .before .before .before .before .before .before .before .before .before .before .before .args .s))) (c .before .before .before .before .before .before .before .before .before .before .before .before .before .before .before .before .before .before .before .before .before .before .before .before .before .before .before .before .before .before .before .before .before .args .z)) (c .before .before .before .before .before .before .before .before .before .before .before .before .before .before .before .before .before .before .before .before .before .before .before .before .before .before .before .before .before .before .before .before .before .pre .0 .0 .accepted) (linesIn (now (c .before .before .before .before .before .before .before .before .before .before .before .before .before .before .before .before .before .before .before .before .before .before .before .before .before .before .before .before .before .before .before .before .before .args .cells)) (c .before .before .before .before .before .before .before .before .before .before .before .before .before .before .before .before .before .before .before .before .before .before .before .before .before .before .before .before .before .before .before .before .before .args .lens)) (c .before .before .before .before .before .before .before .before .before .before .before .before .before .before .before .before .before .before .before .before .before .before .before .before .before .before .before .before .before .before .before .before .before .pre .0 .1) (c .before .before .before .before .before .before .before .before .before .before .before .before .before .before .before .before .before .before .before .before .before .before .before .before .before .before .before .before .before .before .before .before .before .pre .1 .0 .0) (c .before .before .before .before .before .before .before .before .before .before .before .before .before .before .before .before .before .before .before .before .before .before .before .before .before .before .before .before .before .before .before .before .before .pre .1 .0 .1) (prefix-is (c .before .before .before .before .before .before .before .before .before .before .before .before .before .before .before .before .before .before .before .before .before .before .before .before .before .before .before .before .before .before .before .before .before .args .z .activities) (c .before .before .before .before .before .before .before .before .before .before .before .before .before .before .before .before .before .before .fill-setups .last .1 .1 .1 .1 .1 .1 .1 .0) (drop (c .before .before .before .before .before .before .before .before .before .before .before .before .before .before .before .before .before .before .before .before .before .before .before .before .before .before .before .before .before .before .before .before .before .args .z .activities) (replicate 128 0)) (c .before .before .before .before .before .before .before .before .before .before .before .before .before .before .before .before .before .before .fill-setups .kept .1 .1 .1 .1 .1 .1 .1 .0 ∙ lent (c .before .before .before .before .before .before .before .before .before .before .before .before .before .before .before .before .before .before .before .before .before .before .before .before .before .before .before .before .before .before .before .before .before .args .z .activities) (c .before .before .before .before .before .before .before .before .before .before .before .before .before .before .before .before .before .before .before .before .before .before .before .before .before .before .before .before .before .before .before .before .before .pre .0 .0 .accepted .activities .1)) ∙ c .before .before .before .before .before .before .before .before .before .before .before .before .before .before .before .before .before .before .fill-setups .ensures) in
-    subst (λ (x : Columns). Written x _ _ _ _ _ _ _ _ _ _) e (c .before .before .before .before .before .before .before .before .before .before .write .ensures)
+    written-as e (c .before .before .before .before .before .before .before .before .before .before .write .ensures)
 
 pub write-sheet-spec : {M : Type 1} → statement M
 write-sheet-spec =
