@@ -1,0 +1,73 @@
+use mir.Syntax.{w64}
+use mir.Facts.{toZ-ofZ}
+use borrow.Author.Needs.{sfits-of}
+use Rattle.sheet.specs.Rows.{activityIn, machineIn}
+use borrow.Author.Tests.{lt-ltb, le-ltb}
+use denote.Ref.{now}
+use lib.ListN.{length}
+use Prim.Native.Nat.{_+_, _*_}
+use borrow.Author.Needs.{needs}
+use Rattle.sheet.proofs.rows.subject_of.Statement.{statement}
+use Rattle.sheet.proofs.rows.subject_of.Tie as tie
+use Rattle.sheet.proofs.rows.subject_of.Reads as reads
+use Rattle.sheet.proofs.rows.subject_of.Lts as lts
+use Rattle.sheet.proofs.rows.subject.Reads as subject-reads
+
+-- src/rows.rt:49:14
+mul-at : tie.Need-mul-at
+mul-at c = search needs
+
+-- src/rows.rt:50:22
+add-if1 : tie.Need-add-if1
+add-if1 c = search needs
+
+-- src/rows.rt:51:9
+returns : tie.Need-returns
+returns c = rw (le-ltb (4 * c .before .args .i + 3) (length (now (c .before .args .rows))) (c .if1 .taken))
+
+-- src/rows.rt:53:13
+mul-subject : tie.Need-mul-subject
+mul-subject c = search needs
+
+-- src/rows.rt:53:13
+shared-slice-copy-out-subject : tie.Need-shared-slice-copy-out-subject
+shared-slice-copy-out-subject c = search needs
+
+-- src/rows.rt:53:28
+add-subject : tie.Need-add-subject
+add-subject c = search needs
+
+-- src/rows.rt:53:23
+mul-subject-2 : tie.Need-mul-subject-2
+mul-subject-2 c = search needs
+
+-- src/rows.rt:53:23
+shared-slice-copy-out-subject-2 : tie.Need-shared-slice-copy-out-subject-2
+shared-slice-copy-out-subject-2 c = search needs
+
+-- src/rows.rt:53:5
+subject-requires : tie.Need-subject-requires
+subject-requires c κs = search needs
+
+-- src/rows.rt:45:1
+returns-2 : tie.Need-returns-2
+returns-2 c =
+    let b = c .before .before .before .before in
+    let x = activityIn (now (b .args .rows)) (b .args .i) in let y = machineIn (now (b .args .rows)) (b .args .i) in
+    let f = sfits-of {w = w64} {z = x} (c .before .before .subject-arg .given) in let g = sfits-of {w = w64} {z = y} (c .before .subject-arg2 .given) in
+    rw (lt-ltb (4 * b .args .i + 3) (length (now (b .args .rows))) (c .before .before .before .if1 .left)) (rw (toZ-ofZ f, toZ-ofZ g) at (c .subject .ensures))
+
+pub subject-of-spec : {M : Type 1} → statement M
+subject-of-spec =
+    tie.close
+    (tie.spec
+    mul-at
+    add-if1
+    returns
+    mul-subject
+    shared-slice-copy-out-subject
+    add-subject
+    mul-subject-2
+    shared-slice-copy-out-subject-2
+    subject-requires
+    returns-2)
