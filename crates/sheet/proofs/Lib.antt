@@ -1,1 +1,4 @@
 pub mod NumberLaws
+pub mod SearchLaws
+pub mod RuleLaws
+pub mod CheckLaws

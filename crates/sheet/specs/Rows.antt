@@ -72,13 +72,19 @@ abbrev pub activityOf : Subject → Link
 activityOf (Known a m) = To a
 activityOf Unknown = Nothing
 
+abbrev pub isRow : (n R : ℕ) → List ℤ → (b i : ℕ) → Bool
+isRow n R l b i = isOf b (subjectOf n R l i)
+
+abbrev pub isRowOn : (n R : ℕ) → List ℤ → (machine i : ℕ) → Bool
+isRowOn n R l m i = isOn m (subjectOf n R l i)
+
 -- The first row of an activity, among all; the row count where it has none.
 abbrev pub firstRow : (n R : ℕ) → List ℤ → ℕ → ℕ
-firstRow n R l b = first (λ i. isOf b (subjectOf n R l i)) (rowsIn l) 0
+firstRow n R l b = first (isRow n R l b) (rowsIn l) 0
 
 -- The last row on a machine before row i; the row count where there is none.
 abbrev pub rowBefore : (n R : ℕ) → List ℤ → (machine i : ℕ) → ℕ
-rowBefore n R l m i = last (λ j. isOn m (subjectOf n R l j)) (rowsIn l) i
+rowBefore n R l m i = last (isRowOn n R l m) (rowsIn l) i
 
 -- The first row of each of the 128 activities that there can be.
 pub record FirstRows (n R : ℕ) (l : List ℤ) (rows : List ℕ) : Type 0 where
