@@ -66,8 +66,8 @@ module _ {p : Problem} {l : List ℤ} where
     checked {firsts} {count} h f few e =
         let z : rowsIn l - i ≡ 0 = omega (arith, c .within) in
         let q : first (λ a. eqb (getD firsts a 0) count) (p .n) 0 ≡ rowless p l =
-            first-same (λ a. eqb (getD firsts a 0) count) (λ a. eqb (firstRow (p .n) (p .machines) l a) (rowsIn l)) (p .n) 0
-            (λ j k. rw (f .at j (omega arith), e)) in
+        first-same (λ a. eqb (getD firsts a 0) count) (λ a. eqb (firstRow (p .n) (p .machines) l a) (rowsIn l)) (p .n) 0
+        (λ j k. rw (f .at j (omega arith), e)) in
         ap (λ (x : ℕ). missingIf (ltb x (p .n)) x) q ∙ sym (ap (λ (x : ℕ). checkFrom p l x i) z) ∙ c .left
 
     module _ (h : i < rowsIn l) where

@@ -2,3 +2,8 @@ pub mod NumberLaws
 pub mod SearchLaws
 pub mod RuleLaws
 pub mod CheckLaws
+pub mod FindLaws
+pub mod KeptLaws
+pub mod AcceptedLaws
+pub mod LawfulLaws
+pub mod AcceptsExactly

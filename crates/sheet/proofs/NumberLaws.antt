@@ -4,7 +4,7 @@ use mathlib.Core.Path.{_≡_, refl, sym, ap, _∙_}
 use mathlib.Core.Bool.{Bool, true, false, _&&_}
 use native.Mathlib.Omega.{arith}
 use native.Mathlib.Nat.{not-suc-le-zero}
-use borrow.Author.Tests.{lt-ltb, le-ltb, ltb-true, ltb-false, leb-true, le-leb, lt-leb, eqb-true, eqb-false}
+use borrow.Author.Tests.{lt-ltb, le-ltb, ltb-true, ltb-false, leb-true, le-leb, lt-leb, eqb-true, eqb-false, eq-eqb}
 use lib.Dec.{T, eqb, ltb, leb}
 use lib.IntN.{ℤ, pos, negsuc, natAbs, _-ℤ_}
 use lib.Signed.{ltZ, leZ, nonNeg}
@@ -103,3 +103,21 @@ pub size-lasts : (span : ℕ) (e s : ℤ) → T (nonNeg s) → ltZ e s ≡ false
 size-lasts span (pos x) (pos y) t l = let h = ltb-false x y l in rw (minus-above x y h) (sym (both (x - y) span))
 size-lasts span (negsuc x) (pos y) t l = let o : _≡_ {A = ℕ} 0 1 = cc in absurd (omega arith)
 size-lasts span e (negsuc y) t l = absurd t
+
+-- An end after the start by the span: both are natural numbers, and the end is the start and the span.
+from-size : (span : ℕ) (e s : ℤ) → T (nonNeg s) → ltZ e s ≡ false → eqb (natAbs e - natAbs s) span ≡ true
+    → (s ≡ pos (clamp s)) × (e ≡ pos (clamp e)) × (clamp e ≡ clamp s + span)
+from-size span (pos x) (pos y) t l q = let h = ltb-false x y l in let w = eqb-true (x - y) span q in (refl, refl, omega arith)
+from-size span (negsuc x) (pos y) t l q = let o : _≡_ {A = ℕ} 0 1 = cc in absurd (omega arith)
+from-size span e (negsuc y) t l q = absurd t
+
+pub lasts-means : (span : ℕ) (e s : ℤ) → leZ (pos 0) s ≡ true → sameZ (e -ℤ s) (pos span) ≡ true
+    → (s ≡ pos (clamp s)) × (e ≡ pos (clamp e)) × (clamp e ≡ clamp s + span)
+lasts-means span e s h k = go (ltZ e s) refl
+  where
+    go : (t : Bool) → ltZ e s ≡ t → (s ≡ pos (clamp s)) × (e ≡ pos (clamp e)) × (clamp e ≡ clamp s + span)
+    go true l = let w = none-lasts span e s (late-start s h) l in let o : _≡_ {A = ℕ} 0 1 = cc in absurd (omega arith)
+    go false l = from-size span e s (late-start s h) l (size-lasts span e s (late-start s h) l ∙ k)
+
+pub lasts-so : (span x y : ℕ) → x ≡ y + span → sameZ (pos x -ℤ pos y) (pos span) ≡ true
+lasts-so span x y e = sym (size-lasts span (pos x) (pos y) tt (le-ltb x y (omega arith))) ∙ eq-eqb (x - y) span (omega arith)

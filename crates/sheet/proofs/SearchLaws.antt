@@ -46,7 +46,7 @@ first-same f g (suc k) i h = rw (h i (omega arith), first-same f g k (suc i) (λ
 
 -- ---- what rule 1 says
 
-split-and : (a b : Bool) → a && b ≡ true → (a ≡ true) × (b ≡ true)
+pub split-and : (a b : Bool) → a && b ≡ true → (a ≡ true) × (b ≡ true)
 split-and true true e = (refl, refl)
 split-and true false e = (refl, e)
 split-and false b e = (e, let o : _≡_ {A = ℕ} 0 1 = cc in absurd (omega arith))
@@ -82,6 +82,14 @@ module _ (n R : ℕ) (l : List ℤ) (i : ℕ) where
         known = omega (arith, k .1, p .0);
         able = omega (arith, k .2, q .0);
       }
+
+-- A row past the last has nothing known.
+pub past-unknown : (n R : ℕ) (l : List ℤ) → subjectOf n R l (rowsIn l) ≡ Unknown
+past-unknown n R l = rw (le-ltb (4 * rowsIn l + 3) (length l) (omega arith))
+
+pub meets-known : (n R : ℕ) (l : List ℤ) (i a m : ℕ) → Meets n R l i a m → subjectOf n R l i ≡ Known a m
+meets-known n R l i a m w =
+    rw (lt-ltb (4 * i + 3) (length l) (w .whole), w .activity, w .machine, lt-ltb a n (w .known), lt-ltb m R (w .able))
 
 -- Which activity and machine a row is of.
 module _ (n R : ℕ) (l : List ℤ) (i : ℕ) where

@@ -1,8 +1,8 @@
 // Rules 2 to 10. Activity a and machine m are those of row i, which meets rule 1; `before` is the row before it on its machine, and `firsts`
 // has the first row of each activity. The row count stands for no row.
-use crate::rows;
 use crate::Subject;
 use crate::Verdict;
+use crate::rows;
 use graph::Link;
 use plan::Layout;
 ghost use mathlib.Core.Path.{_≡_};

@@ -50,7 +50,7 @@ shared-slice-copy-out-result-2 c = search needs
 
 -- src/rows.rt:118:1
 returns-2 : tie.Need-returns-2
-returns-2 c = 
+returns-2 c =
     let b = c .before .before .before in
     let e = endIn (now (b .args .rows)) (b .args .r) in let s = startIn (now (b .args .rows)) (b .args .i) in
     rw (toZ-ofZ (sfits-of {w = w64} {z = e} (c .before .result .given)), toZ-ofZ (sfits-of {w = w64} {z = s} (c .result2 .given)), lt-ltb (4 * b .args .r + 3) (length (now (b .args .rows))) (c .before .before .if1 .left))

@@ -45,35 +45,35 @@ shared-slice-copy-out-end c = search needs
 
 -- src/rows.rt:98:9
 returns : tie.Need-returns
-returns c = 
+returns c =
     let b = c .before .before .before in let s = startIn (now (b .args .rows)) (b .args .i) in let e = endIn (now (b .args .rows)) (b .args .i) in
     let f = sfits-of {w = w64} {z = s} (c .before .before .start .given) in let g = sfits-of {w = w64} {z = e} (c .before .end .given) in
     none-lasts (b .args .span) e s (late-start s (b .pre .1)) (seen ltZ g f (c .if1 .taken))
 
 -- src/rows.rt:100:20
 cast-lasting : tie.Need-cast-lasting
-cast-lasting c = 
+cast-lasting c =
     let b = c .before .before .before in let s = startIn (now (b .args .rows)) (b .args .i) in let e = endIn (now (b .args .rows)) (b .args .i) in
     let f = sfits-of {w = w64} {z = s} (c .before .before .start .given) in let g = sfits-of {w = w64} {z = e} (c .before .end .given) in
     cast-number g (end-positive e s (late-start s (b .pre .1)) (seen ltZ g f (c .if1 .left)))
 
 -- src/rows.rt:100:35
 cast-lasting-2 : tie.Need-cast-lasting-2
-cast-lasting-2 c = 
+cast-lasting-2 c =
     let b = c .before .before .before in let s = startIn (now (b .args .rows)) (b .args .i) in
     let f = sfits-of {w = w64} {z = s} (c .before .before .start .given) in
     cast-number f (late-start s (b .pre .1))
 
 -- src/rows.rt:100:19
 sub-lasting : tie.Need-sub-lasting
-sub-lasting c = 
+sub-lasting c =
     let b = c .before .before .before in let s = startIn (now (b .args .rows)) (b .args .i) in let e = endIn (now (b .args .rows)) (b .args .i) in
     let f = sfits-of {w = w64} {z = s} (c .before .before .start .given) in let g = sfits-of {w = w64} {z = e} (c .before .end .given) in
     rw (toZ-ofZ f, toZ-ofZ g) (end-after e s (late-start s (b .pre .1)) (seen ltZ g f (c .if1 .left)))
 
 -- src/rows.rt:91:1
 returns-2 : tie.Need-returns-2
-returns-2 c = 
+returns-2 c =
     let b = c .before .before .before in let s = startIn (now (b .args .rows)) (b .args .i) in let e = endIn (now (b .args .rows)) (b .args .i) in
     let f = sfits-of {w = w64} {z = s} (c .before .before .start .given) in let g = sfits-of {w = w64} {z = e} (c .before .end .given) in
     rw (toZ-ofZ f, toZ-ofZ g) (size-lasts (b .args .span) e s (late-start s (b .pre .1)) (seen ltZ g f (c .if1 .left)))

@@ -28,19 +28,19 @@ shared-slice-copy-out-start c = search needs
 
 -- src/rows.rt:111:9
 returns : tie.Need-returns
-returns c = 
+returns c =
     let b = c .before .before in let x = startIn (now (b .args .rows)) (b .args .i) in let f = sfits-of {w = w64} {z = x} (c .before .start .given) in
     none-waits (b .args .release) x (seen-negative f (c .if1 .taken))
 
 -- src/rows.rt:113:18
 cast-moment : tie.Need-cast-moment
-cast-moment c = 
+cast-moment c =
     let b = c .before .before in let x = startIn (now (b .args .rows)) (b .args .i) in let f = sfits-of {w = w64} {z = x} (c .before .start .given) in
     cast-number f (not-negative x (seen-negative f (c .if1 .left)))
 
 -- src/rows.rt:105:1
 returns-2 : tie.Need-returns-2
-returns-2 c = 
+returns-2 c =
     let b = c .before .before in let x = startIn (now (b .args .rows)) (b .args .i) in let f = sfits-of {w = w64} {z = x} (c .before .start .given) in
     rw (toZ-ofZ f) (size-waits (b .args .release) x (not-negative x (seen-negative f (c .if1 .left))))
 
