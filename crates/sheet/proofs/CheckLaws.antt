@@ -2,7 +2,7 @@
 use Prim.Native.Nat.{ℕ, zero, suc, _+_, _-_, _≤_, _<_}
 use mathlib.Core.Path.{_≡_, refl, sym, ap, _∙_, subst}
 use mathlib.Core.Bool.{Bool, true, false, cond}
-use mathlib.Core.List.{List, [], _∷_}
+use mathlib.Core.List.{List}
 use native.Mathlib.Omega.{arith}
 use native.Mathlib.Numerals.{add-one}
 use borrow.Author.Tests.{eq-eqb, ne-eqb}
@@ -12,7 +12,7 @@ use lib.Seq.{getD-set-same, getD-set-other}
 use lib.IntN.{ℤ}
 use Rattle.graph.proofs.CountingLaws.{either}
 use Rattle.plan.specs.Problem.{Problem}
-use Rattle.sheet.specs.Rows.{rowsIn, first, last, subjectOf, isOn, isRowOn, firstRow, rowBefore, FirstRows}
+use Rattle.sheet.specs.Rows.{rowsIn, first, last, subjectOf, isRowOn, firstRow, rowBefore, FirstRows}
 use Rattle.sheet.specs.Sheet.{laterRule, ruleOf, brokenRule, rowless, missingIf, badOr, checkFrom, checkSheet}
 use Rattle.sheet.specs.declared.Subject.{Subject}
 use Rattle.sheet.specs.declared.Subject.the-variants.{Known, Unknown}

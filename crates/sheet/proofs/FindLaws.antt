@@ -1,11 +1,11 @@
 -- More laws of the first and the last number that pass a test: which number it is, from what passes and what does not, and back.
 use Prim.Native.Nat.{ℕ, zero, suc, _+_, _-_, _≤_, _<_}
-use mathlib.Core.Path.{_≡_, refl, sym, ap, _∙_, subst}
-use mathlib.Core.Bool.{Bool, true, false, cond, _&&_}
+use mathlib.Core.Path.{_≡_, refl, sym, _∙_, subst}
+use mathlib.Core.Bool.{Bool, true, false, cond}
 use mathlib.Core.List.{List, [], _∷_}
 use mathlib.Core.Logic.{_⊎_, inl, inr, ⊎-elim}
 use native.Mathlib.Omega.{arith}
-use Rattle.graph.specs.Counting.{countOf, hit}
+use Rattle.graph.specs.Counting.{countOf}
 use Rattle.graph.proofs.CountingLaws.{either, hit-eq, hit-ne}
 use Rattle.sheet.specs.Rows.{first, last}
 use Rattle.sheet.specs.Sheet.{all}

@@ -11,10 +11,9 @@ use Rattle.graph.proofs.CountingLaws.{either}
 use Rattle.plan.specs.Problem.{Problem}
 use Rattle.sheet.specs.Rows.{rowsIn, isWhole, isBelow, activityIn, machineIn, subjectIf, subjectOf, firstRow, rowBefore}
 use Rattle.sheet.specs.Sheet.{startsLate, endsEarly, lasts, spanAfter, waitsUntil, endsBy, afterStep, afterNamed, firstBroken, orElse, ownRule, waitingRule, laterRule, ruleOf, brokenRule, rowless, missingIf, badOr, checkFrom, checkSheet}
-use Rattle.sheet.specs.declared.Subject.{Subject}
-use Rattle.sheet.specs.declared.Subject.the-variants.{Known, Unknown}
+use Rattle.sheet.specs.declared.Subject.the-variants.{Known}
 use Rattle.sheet.specs.declared.Verdict.{Verdict}
-use Rattle.sheet.specs.declared.Verdict.the-variants.{Accepted, Bad, Missing}
+use Rattle.sheet.specs.declared.Verdict.the-variants.{Accepted}
 
 pub record Kept (p : Problem) (l : List ℤ) (i a m : ℕ) : Type 0 where
   pub first : eqb (firstRow (p .n) (p .machines) l a) i ≡ true

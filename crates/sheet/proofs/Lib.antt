@@ -7,3 +7,4 @@ pub mod KeptLaws
 pub mod AcceptedLaws
 pub mod LawfulLaws
 pub mod AcceptsExactly
+pub mod Worked

@@ -22,7 +22,6 @@ use Rattle.tables.specs.Tabled.{taskPred}
 use Rattle.bounds.specs.Bounds.{categoryBefore, setupOf}
 use Rattle.sheet.specs.Rows.{first, firstRow, FirstRows}
 use Rattle.sheet.specs.Sheet.{all, endsBy, afterStep, afterNamed, orElse, missingIf}
-use Rattle.sheet.specs.declared.Verdict.{Verdict}
 use Rattle.sheet.specs.declared.Verdict.the-variants.{Accepted as Approved, Missing}
 use Rattle.sheet.proofs.SearchLaws.{first-yes, first-no}
 

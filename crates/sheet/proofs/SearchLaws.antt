@@ -2,11 +2,9 @@
 use Prim.Native.Nat.{ℕ, zero, suc, _+_, _-_, _*_, _≤_, _<_}
 use mathlib.Core.Path.{_≡_, refl, sym, ap, _∙_, subst}
 use mathlib.Core.Bool.{Bool, true, false, cond, _&&_}
-use mathlib.Core.List.{List, [], _∷_}
-use mathlib.Core.Logic.{_⊎_, inl, inr, ⊎-elim}
+use mathlib.Core.List.{List}
 use native.Mathlib.Omega.{arith}
-use borrow.Author.Tests.{lt-ltb, le-ltb, ltb-true, ltb-false, eqb-true, eqb-false, eq-eqb, ne-eqb}
-use lib.Dec.{eqb, ltb}
+use borrow.Author.Tests.{lt-ltb, le-ltb, ltb-true, eq-eqb, ne-eqb}
 use lib.ListN.{length, getD, set, replicate, length-set, length-replicate, getD-replicate}
 use lib.Seq.{getD-set-same, getD-set-other}
 use lib.IntN.{ℤ, pos, negsuc}
@@ -14,7 +12,7 @@ use Rattle.words.specs.Signed.{clamp}
 use Rattle.graph.specs.Counting.{Below}
 use Rattle.graph.specs.Links.{linked}
 use Rattle.graph.proofs.CountingLaws.{either}
-use Rattle.sheet.specs.Rows.{first, last, rowsIn, isWhole, isBelow, activityIn, machineIn, subjectIf, subjectOf, isOf, isOn, activityOf, isRow, isRowOn, firstRow, FirstRows}
+use Rattle.sheet.specs.Rows.{first, rowsIn, isWhole, isBelow, activityIn, machineIn, subjectIf, subjectOf, isOf, activityOf, isRow, FirstRows}
 use Rattle.sheet.specs.declared.Subject.{Subject}
 use Rattle.sheet.specs.declared.Subject.the-variants.{Known, Unknown}
 

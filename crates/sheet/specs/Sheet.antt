@@ -3,7 +3,7 @@
 -- 9 each predecessor's end. A task or named predecessor is looked for in all rows, its first that meets rule 1; without one it binds nothing.
 -- The answer: the first bad row, its first broken rule; else rule 10, the lowest activity without a row; else accepted.
 -- An earlier row that breaks rule 1 is itself the first bad one, so rules 2 and 7 look only at rows that meet it.
-use Prim.Native.Nat.{ℕ, zero, suc, _+_, _*_, _<_}
+use Prim.Native.Nat.{ℕ, zero, suc}
 use mathlib.Core.Bool.{Bool, true, false, cond, _&&_}
 use mathlib.Core.List.{List, [], _∷_}
 use lib.Dec.{eqb, ltb}

@@ -2,8 +2,8 @@
 use crate::Subject;
 ghost use mathlib.Core.Path.{_≡_};
 ghost use mathlib.Core.Bool.{true, _&&_};
-ghost use Prim.Native.Nat.{ℕ, _+_, _*_, _^_, _<_, _≤_};
-ghost use lib.ListN.{length, getD};
+ghost use Prim.Native.Nat.{_+_, _*_, _^_, _<_, _≤_};
+ghost use lib.ListN.{length};
 ghost use Rattle.sheet.specs.Rows.{rowsIn, isBelow, subjectIf, subjectOf, FirstRows};
 ghost use Rattle.sheet.specs.Sheet.{endsBy, startsLate, endsEarly, lasts, waitsUntil};
 

@@ -1,6 +1,6 @@
 use borrow.Author.Needs.{needs}
 use native.Mathlib.Omega.{arith}
-use mathlib.Core.Path.{_≡_, refl, sym, ap, _∙_}
+use mathlib.Core.Path.{_≡_, sym, _∙_}
 use denote.Ref.{now}
 use Prim.Native.Nat.{_<_, _-_}
 use Rattle.words.specs.Words.{words}
@@ -11,12 +11,6 @@ use Rattle.sheet.proofs.SearchLaws.{Meets, known-meets}
 use Rattle.sheet.proofs.CheckLaws.{Checking, checks, before-within, unknown, bad, good, checked}
 use Rattle.sheet.proofs.check_rows.Statement.{statement}
 use Rattle.sheet.proofs.check_rows.Tie as tie
-use Rattle.sheet.proofs.check_rows.Reads as reads
-use Rattle.sheet.proofs.check_rows.Lts as lts
-use Rattle.sheet.proofs.rows.row_count.Reads as row-count-reads
-use Rattle.sheet.proofs.rows.subject_of.Reads as subject-of-reads
-use Rattle.sheet.proofs.rules.later_rule.Reads as later-rule-reads
-use Rattle.sheet.proofs.rules.missing.Reads as missing-reads
 
 abbrev Inv-loop : tie.InvT-loop
 Inv-loop s z table rows firsts n machines count last-on₀ i₀ last-on i = Checking (problemOf (words s) z) rows last-on i
@@ -38,73 +32,56 @@ meets c = let b = c .before .before .before .before .before .before .before .bef
 able : (c : tie.After-a Inv-loop μ-loop) → c .a .given .0 .1 .0 < 16
 able c = let b = c .before .before .before .before .before .before .before .before .before in omega (arith, meets c .able, b .pre .0 .0 .machines)
 
--- src/lib.rt:36:9
 row-count-requires : tie.Need-row-count-requires Inv-loop μ-loop
 row-count-requires c κs = search needs
 
--- src/lib.rt:39:5
 loop-holds : tie.Need-loop-holds Inv-loop μ-loop
 loop-holds c = checks (c .row-count .result) (c .row-count .ensures)
 
--- src/lib.rt:40:36
 subject-of-requires : tie.Need-subject-of-requires Inv-loop μ-loop
 subject-of-requires c κs = let e = c .before .before .row-count .ensures in omega arith
 
--- src/lib.rt:40:28
 enum-known-a : tie.Need-enum-known-a Inv-loop μ-loop
 enum-known-a c = search needs
 
--- src/lib.rt:41:13
 enum-told : tie.Need-enum-told Inv-loop μ-loop
 enum-told c = search needs
 
--- src/lib.rt:41:13
 returns : tie.Need-returns Inv-loop μ-loop
 returns c = unknown (c .before .before .before .before .loop .inv) (inside (c .before .before .before)) (sym (c .before .before .subject-of .ensures) ∙ c .enum-told .given .1)
 
--- src/lib.rt:43:65
 mul-later-rule : tie.Need-mul-later-rule Inv-loop μ-loop
 mul-later-rule c = let m = able (c .before) in omega arith
 
--- src/lib.rt:43:65
 array-read-later-rule : tie.Need-array-read-later-rule Inv-loop μ-loop
 array-read-later-rule c = let m = able (c .before) in search needs
 
--- src/lib.rt:43:13
 later-rule-requires : tie.Need-later-rule-requires Inv-loop μ-loop
 later-rule-requires c κs =
     let b = c .before .before .before .before .before .before .before .before .before .before in let k = meets (c .before) in
     (b .pre .0, (k .known, k .able, omega (arith, before-within (c .before .before .before .before .before .loop .inv) (c .before .a .given .0 .1 .0) (able (c .before))), k .whole, b .pre .1))
 
--- src/lib.rt:45:13
 returns-2 : tie.Need-returns-2 Inv-loop μ-loop
 returns-2 c = bad (c .before .before .before .before .before .before .before .loop .inv) (inside (c .before .before .before .before .before .before)) (known (c .before .before .before)) (able (c .before .before .before)) (c .before .later-rule .ensures) (c .if1 .taken)
 
--- src/lib.rt:47:9
 mul-last-on : tie.Need-mul-last-on Inv-loop μ-loop
 mul-last-on c = let m = able (c .before .before .before) in omega arith
 
--- src/lib.rt:47:9
 array-write-last-on : tie.Need-array-write-last-on Inv-loop μ-loop
 array-write-last-on c = let m = able (c .before .before .before) in search needs
 
--- src/lib.rt:48:9
 add-i : tie.Need-add-i Inv-loop μ-loop
 add-i c = search needs
 
--- src/lib.rt:39:5
 loop-less : tie.Need-loop-less Inv-loop μ-loop
 loop-less c = search needs
 
--- src/lib.rt:39:5
 loop-again : tie.Need-loop-again Inv-loop μ-loop
 loop-again c = good (c .before .before .before .before .before .before .before .loop .inv) (inside (c .before .before .before .before .before .before)) (known (c .before .before .before)) (able (c .before .before .before)) (c .before .later-rule .ensures) (c .if1 .left)
 
--- src/lib.rt:50:5
 missing-requires : tie.Need-missing-requires Inv-loop μ-loop
 missing-requires c κs = let b = c .before .before .before .before .before .before in omega (arith, b .pre .1 .sized, b .pre .0 .0 .activities)
 
--- src/lib.rt:29:1
 returns-3 : tie.Need-returns-3 Inv-loop μ-loop
 returns-3 c = let b = c .before .before .before .before .before .before .before in c .missing .ensures ∙ checked (c .before .before .loop .inv) (omega (arith, c .before .loop-test .left, c .before .before .before .row-count .ensures)) (b .pre .1) (b .pre .0 .0 .activities) (c .before .before .before .row-count .ensures)
 

@@ -9,46 +9,34 @@ use Prim.Native.Nat.{_+_, _*_}
 use borrow.Author.Needs.{needs}
 use Rattle.sheet.proofs.rows.ends_by.Statement.{statement}
 use Rattle.sheet.proofs.rows.ends_by.Tie as tie
-use Rattle.sheet.proofs.rows.ends_by.Reads as reads
-use Rattle.sheet.proofs.rows.ends_by.Lts as lts
 
--- src/rows.rt:122:16
 mul-last : tie.Need-mul-last
 mul-last c = search needs
 
--- src/rows.rt:122:16
 add-last : tie.Need-add-last
 add-last c = search needs
 
--- src/rows.rt:124:9
 returns : tie.Need-returns
 returns c = rw (le-ltb (4 * c .before .args .r + 3) (length (now (c .before .args .rows))) (c .if1 .taken))
 
--- src/rows.rt:126:5
 mul-result : tie.Need-mul-result
 mul-result c = search needs
 
--- src/rows.rt:126:5
 shared-slice-copy-out-result : tie.Need-shared-slice-copy-out-result
 shared-slice-copy-out-result c = search needs
 
--- src/rows.rt:126:24
 mul-result-2 : tie.Need-mul-result-2
 mul-result-2 c = search needs
 
--- src/rows.rt:126:24
 add-result : tie.Need-add-result
 add-result c = search needs
 
--- src/rows.rt:126:19
 mul-result-3 : tie.Need-mul-result-3
 mul-result-3 c = search needs
 
--- src/rows.rt:126:19
 shared-slice-copy-out-result-2 : tie.Need-shared-slice-copy-out-result-2
 shared-slice-copy-out-result-2 c = search needs
 
--- src/rows.rt:118:1
 returns-2 : tie.Need-returns-2
 returns-2 c =
     let b = c .before .before .before in

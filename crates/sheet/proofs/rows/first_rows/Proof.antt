@@ -1,6 +1,6 @@
 use borrow.Author.Needs.{needs}
 use native.Mathlib.Omega.{arith}
-use mathlib.Core.Path.{_≡_, refl, sym, ap, _∙_}
+use mathlib.Core.Path.{_≡_, sym, _∙_}
 use denote.Ref.{now}
 use Prim.Native.Nat.{_<_, _-_}
 use Rattle.sheet.specs.Rows.{subjectOf}
@@ -8,10 +8,6 @@ use Rattle.sheet.specs.declared.Subject.the-variants.{Known}
 use Rattle.sheet.proofs.SearchLaws.{Filling, filled-none, skipped, filled-in, filled, known-meets}
 use Rattle.sheet.proofs.rows.first_rows.Statement.{statement}
 use Rattle.sheet.proofs.rows.first_rows.Tie as tie
-use Rattle.sheet.proofs.rows.first_rows.Reads as reads
-use Rattle.sheet.proofs.rows.first_rows.Lts as lts
-use Rattle.sheet.proofs.rows.row_count.Reads as row-count-reads
-use Rattle.sheet.proofs.rows.subject_of.Reads as subject-of-reads
 
 abbrev Inv-loop : tie.InvT-loop
 Inv-loop rows n machines count firsts₀ i₀ firsts i = Filling n machines rows firsts i
@@ -28,55 +24,42 @@ bound c =
     let k = known-meets (b .args .n) (b .args .machines) (now (b .args .rows)) (c .before .before .before .before .loop .i - 1) (known c) .known in
     omega (arith, k, b .pre)
 
--- src/rows.rt:61:9
 row-count-requires : tie.Need-row-count-requires Inv-loop μ-loop
 row-count-requires c κs = search needs
 
--- src/rows.rt:64:5
 loop-holds : tie.Need-loop-holds Inv-loop μ-loop
 loop-holds c = filled-none (c .row-count .result) (c .row-count .ensures)
 
--- src/rows.rt:65:9
 sub-i : tie.Need-sub-i Inv-loop μ-loop
 sub-i c = search needs
 
--- src/rows.rt:66:36
 subject-of-requires : tie.Need-subject-of-requires Inv-loop μ-loop
 subject-of-requires c κs = let w = c .before .loop .inv .within in omega arith
 
--- src/rows.rt:66:28
 enum-known-a : tie.Need-enum-known-a Inv-loop μ-loop
 enum-known-a c = search needs
 
--- src/rows.rt:67:13
 enum-told : tie.Need-enum-told Inv-loop μ-loop
 enum-told c = search needs
 
--- src/rows.rt:64:5
 loop-less : tie.Need-loop-less Inv-loop μ-loop
 loop-less c = search needs
 
--- src/rows.rt:64:5
 loop-again : tie.Need-loop-again Inv-loop μ-loop
 loop-again c = skipped (c .before .before .before .before .loop .inv) (c .before .before .before .loop-test .taken) (sym (c .before .before .subject-of .ensures) ∙ c .enum-told .given .1)
 
--- src/rows.rt:69:9
 mul-firsts : tie.Need-mul-firsts Inv-loop μ-loop
 mul-firsts c = let b = bound (c .before) in omega arith
 
--- src/rows.rt:69:9
 array-write-firsts : tie.Need-array-write-firsts Inv-loop μ-loop
 array-write-firsts c = let b = bound (c .before) in search needs
 
--- src/rows.rt:64:5
 loop-less-2 : tie.Need-loop-less-2 Inv-loop μ-loop
 loop-less-2 c = search needs
 
--- src/rows.rt:64:5
 loop-again-2 : tie.Need-loop-again-2 Inv-loop μ-loop
 loop-again-2 c = filled-in (c .before .before .before .before .before .loop .inv) (c .before .before .before .before .loop-test .taken) (known (c .before)) (bound (c .before))
 
--- src/rows.rt:57:1
 returns : tie.Need-returns Inv-loop μ-loop
 returns c = filled (c .before .loop .inv) (c .loop-test .left)
 

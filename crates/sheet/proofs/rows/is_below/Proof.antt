@@ -2,18 +2,13 @@ use Rattle.sheet.proofs.NumberLaws.{none-below, seen-negative, cast-num
 use mir.Facts.{toZ-ofZ}
 use Rattle.sheet.proofs.rows.is_below.Statement.{statement}
 use Rattle.sheet.proofs.rows.is_below.Tie as tie
-use Rattle.sheet.proofs.rows.is_below.Reads as reads
-use Rattle.sheet.proofs.rows.is_below.Lts as lts
 
--- src/rows.rt:25:9
 returns : tie.Need-returns
 returns c = none-below (c .before .args .n) (c .before .args .x) (seen-negative (c .before .fits .x) (c .if1 .taken))
 
--- src/rows.rt:27:18
 cast-number : tie.Need-cast-number
 cast-number c = number-cast (c .before .fits .x) (not-negative (c .before .args .x) (seen-negative (c .before .fits .x) (c .if1 .left)))
 
--- src/rows.rt:21:1
 returns-2 : tie.Need-returns-2
 returns-2 c = rw (toZ-ofZ (c .before .fits .x)) (size-below (c .before .args .n) (c .before .args .x) (not-negative (c .before .args .x) (seen-negative (c .before .fits .x) (c .if1 .left))))
 

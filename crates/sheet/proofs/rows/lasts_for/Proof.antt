@@ -8,70 +8,55 @@ use denote.Ref.{now}
 use borrow.Author.Needs.{needs}
 use Rattle.sheet.proofs.rows.lasts_for.Statement.{statement}
 use Rattle.sheet.proofs.rows.lasts_for.Tie as tie
-use Rattle.sheet.proofs.rows.lasts_for.Reads as reads
-use Rattle.sheet.proofs.rows.lasts_for.Lts as lts
 
--- src/rows.rt:95:22
 mul-start : tie.Need-mul-start
 mul-start c = search needs
 
--- src/rows.rt:95:22
 add-start : tie.Need-add-start
 add-start c = search needs
 
--- src/rows.rt:95:17
 mul-start-2 : tie.Need-mul-start-2
 mul-start-2 c = search needs
 
--- src/rows.rt:95:17
 shared-slice-copy-out-start : tie.Need-shared-slice-copy-out-start
 shared-slice-copy-out-start c = search needs
 
--- src/rows.rt:96:20
 mul-end : tie.Need-mul-end
 mul-end c = search needs
 
--- src/rows.rt:96:20
 add-end : tie.Need-add-end
 add-end c = search needs
 
--- src/rows.rt:96:15
 mul-end-2 : tie.Need-mul-end-2
 mul-end-2 c = search needs
 
--- src/rows.rt:96:15
 shared-slice-copy-out-end : tie.Need-shared-slice-copy-out-end
 shared-slice-copy-out-end c = search needs
 
--- src/rows.rt:98:9
 returns : tie.Need-returns
 returns c =
     let b = c .before .before .before in let s = startIn (now (b .args .rows)) (b .args .i) in let e = endIn (now (b .args .rows)) (b .args .i) in
     let f = sfits-of {w = w64} {z = s} (c .before .before .start .given) in let g = sfits-of {w = w64} {z = e} (c .before .end .given) in
     none-lasts (b .args .span) e s (late-start s (b .pre .1)) (seen ltZ g f (c .if1 .taken))
 
--- src/rows.rt:100:20
 cast-lasting : tie.Need-cast-lasting
 cast-lasting c =
     let b = c .before .before .before in let s = startIn (now (b .args .rows)) (b .args .i) in let e = endIn (now (b .args .rows)) (b .args .i) in
     let f = sfits-of {w = w64} {z = s} (c .before .before .start .given) in let g = sfits-of {w = w64} {z = e} (c .before .end .given) in
     cast-number g (end-positive e s (late-start s (b .pre .1)) (seen ltZ g f (c .if1 .left)))
 
--- src/rows.rt:100:35
 cast-lasting-2 : tie.Need-cast-lasting-2
 cast-lasting-2 c =
     let b = c .before .before .before in let s = startIn (now (b .args .rows)) (b .args .i) in
     let f = sfits-of {w = w64} {z = s} (c .before .before .start .given) in
     cast-number f (late-start s (b .pre .1))
 
--- src/rows.rt:100:19
 sub-lasting : tie.Need-sub-lasting
 sub-lasting c =
     let b = c .before .before .before in let s = startIn (now (b .args .rows)) (b .args .i) in let e = endIn (now (b .args .rows)) (b .args .i) in
     let f = sfits-of {w = w64} {z = s} (c .before .before .start .given) in let g = sfits-of {w = w64} {z = e} (c .before .end .given) in
     rw (toZ-ofZ f, toZ-ofZ g) (end-after e s (late-start s (b .pre .1)) (seen ltZ g f (c .if1 .left)))
 
--- src/rows.rt:91:1
 returns-2 : tie.Need-returns-2
 returns-2 c =
     let b = c .before .before .before in let s = startIn (now (b .args .rows)) (b .args .i) in let e = endIn (now (b .args .rows)) (b .args .i) in

@@ -2,32 +2,24 @@ use mir.Facts.{toZ-ofZ}
 use mathlib.Core.Bool.{true}
 use Rattle.sheet.proofs.NumberLaws.{cast-number, below-positive, size-clamped}
 use mathlib.Core.Path.{_≡_, sym, _∙_}
-use mathlib.Core.Bool.{false}
 use borrow.Author.Tests.{not-true, not-false}
 use Rattle.sheet.specs.Rows.{isBelow}
 use borrow.Author.Needs.{needs}
 use Rattle.sheet.proofs.rows.subject.Statement.{statement}
 use Rattle.sheet.proofs.rows.subject.Tie as tie
-use Rattle.sheet.proofs.rows.subject.Reads as reads
-use Rattle.sheet.proofs.rows.subject.Lts as lts
-use Rattle.sheet.proofs.rows.is_below.Reads as is-below-reads
 
--- src/rows.rt:35:9
 is-below-requires : tie.Need-is-below-requires
 is-below-requires c κs = search needs
 
--- src/rows.rt:36:9
 returns : tie.Need-returns
 returns c =
     let b = c .before .before in
     let e : c .before .is-below .result ≡ isBelow (b .args .n) (b .args .a) = rw (toZ-ofZ (b .fits .a)) at (c .before .is-below .ensures) in
     rw (sym e ∙ not-true (c .before .is-below .result) (c .if1 .taken))
 
--- src/rows.rt:38:9
 is-below-requires-2 : tie.Need-is-below-requires-2
 is-below-requires-2 c κs = search needs
 
--- src/rows.rt:39:9
 returns-2 : tie.Need-returns-2
 returns-2 c =
     let b = c .before .before .before .before in
@@ -36,7 +28,6 @@ returns-2 c =
     let x : isBelow (b .args .n) (b .args .a) ≡ true = sym e ∙ not-false (c .before .before .before .is-below .result) (c .before .before .if1 .left) in
     rw (x, sym f ∙ not-true (c .before .is-below2 .result) (c .if2 .taken))
 
--- src/rows.rt:41:20
 cast-t7 : tie.Need-cast-t7
 cast-t7 c =
     let b = c .before .before .before .before in
@@ -45,7 +36,6 @@ cast-t7 c =
     let x : isBelow (b .args .n) (b .args .a) ≡ true = sym e ∙ not-false (c .before .before .before .is-below .result) (c .before .before .if1 .left) in
     cast-number (b .fits .a) (below-positive (b .args .n) (b .args .a) x)
 
--- src/rows.rt:41:32
 cast-t8 : tie.Need-cast-t8
 cast-t8 c =
     let b = c .before .before .before .before in
@@ -54,7 +44,6 @@ cast-t8 c =
     let y : isBelow (b .args .machines) (b .args .m) ≡ true = sym f ∙ not-false (c .before .is-below2 .result) (c .if2 .left) in
     cast-number (b .fits .m) (below-positive (b .args .machines) (b .args .m) y)
 
--- src/rows.rt:32:1
 returns-3 : tie.Need-returns-3
 returns-3 c =
     let b = c .before .before .before .before in

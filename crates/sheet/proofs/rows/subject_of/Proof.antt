@@ -9,47 +9,34 @@ use Prim.Native.Nat.{_+_, _*_}
 use borrow.Author.Needs.{needs}
 use Rattle.sheet.proofs.rows.subject_of.Statement.{statement}
 use Rattle.sheet.proofs.rows.subject_of.Tie as tie
-use Rattle.sheet.proofs.rows.subject_of.Reads as reads
-use Rattle.sheet.proofs.rows.subject_of.Lts as lts
-use Rattle.sheet.proofs.rows.subject.Reads as subject-reads
 
--- src/rows.rt:49:14
 mul-at : tie.Need-mul-at
 mul-at c = search needs
 
--- src/rows.rt:50:22
 add-if1 : tie.Need-add-if1
 add-if1 c = search needs
 
--- src/rows.rt:51:9
 returns : tie.Need-returns
 returns c = rw (le-ltb (4 * c .before .args .i + 3) (length (now (c .before .args .rows))) (c .if1 .taken))
 
--- src/rows.rt:53:13
 mul-subject : tie.Need-mul-subject
 mul-subject c = search needs
 
--- src/rows.rt:53:13
 shared-slice-copy-out-subject : tie.Need-shared-slice-copy-out-subject
 shared-slice-copy-out-subject c = search needs
 
--- src/rows.rt:53:28
 add-subject : tie.Need-add-subject
 add-subject c = search needs
 
--- src/rows.rt:53:23
 mul-subject-2 : tie.Need-mul-subject-2
 mul-subject-2 c = search needs
 
--- src/rows.rt:53:23
 shared-slice-copy-out-subject-2 : tie.Need-shared-slice-copy-out-subject-2
 shared-slice-copy-out-subject-2 c = search needs
 
--- src/rows.rt:53:5
 subject-requires : tie.Need-subject-requires
 subject-requires c κs = search needs
 
--- src/rows.rt:45:1
 returns-2 : tie.Need-returns-2
 returns-2 c =
     let b = c .before .before .before .before in

@@ -7,38 +7,29 @@ use denote.Ref.{now}
 use borrow.Author.Needs.{needs}
 use Rattle.sheet.proofs.rows.waits_until.Statement.{statement}
 use Rattle.sheet.proofs.rows.waits_until.Tie as tie
-use Rattle.sheet.proofs.rows.waits_until.Reads as reads
-use Rattle.sheet.proofs.rows.waits_until.Lts as lts
 
--- src/rows.rt:109:22
 mul-start : tie.Need-mul-start
 mul-start c = search needs
 
--- src/rows.rt:109:22
 add-start : tie.Need-add-start
 add-start c = search needs
 
--- src/rows.rt:109:17
 mul-start-2 : tie.Need-mul-start-2
 mul-start-2 c = search needs
 
--- src/rows.rt:109:17
 shared-slice-copy-out-start : tie.Need-shared-slice-copy-out-start
 shared-slice-copy-out-start c = search needs
 
--- src/rows.rt:111:9
 returns : tie.Need-returns
 returns c =
     let b = c .before .before in let x = startIn (now (b .args .rows)) (b .args .i) in let f = sfits-of {w = w64} {z = x} (c .before .start .given) in
     none-waits (b .args .release) x (seen-negative f (c .if1 .taken))
 
--- src/rows.rt:113:18
 cast-moment : tie.Need-cast-moment
 cast-moment c =
     let b = c .before .before in let x = startIn (now (b .args .rows)) (b .args .i) in let f = sfits-of {w = w64} {z = x} (c .before .start .given) in
     cast-number f (not-negative x (seen-negative f (c .if1 .left)))
 
--- src/rows.rt:105:1
 returns-2 : tie.Need-returns-2
 returns-2 c =
     let b = c .before .before in let x = startIn (now (b .args .rows)) (b .args .i) in let f = sfits-of {w = w64} {z = x} (c .before .start .given) in

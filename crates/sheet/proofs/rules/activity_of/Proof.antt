@@ -1,31 +1,21 @@
-use native.Mathlib.Omega.{arith}
-use mathlib.Core.Path.{_≡_, refl, sym, ap, _∙_}
-use denote.Ref.{now}
+use mathlib.Core.Path.{sym, ap, _∙_}
 use Rattle.sheet.specs.Rows.{activityOf}
 use borrow.Author.Needs.{needs}
 use Rattle.sheet.proofs.rules.activity_of.Statement.{statement}
 use Rattle.sheet.proofs.rules.activity_of.Tie as tie
-use Rattle.sheet.proofs.rules.activity_of.Reads as reads
-use Rattle.sheet.proofs.rules.activity_of.Lts as lts
-use Rattle.sheet.proofs.rows.subject_of.Reads as subject-of-reads
 
--- src/rules.rt:29:32
 subject-of-requires : tie.Need-subject-of-requires
 subject-of-requires c κs = search needs
 
--- src/rules.rt:29:24
 enum-known-a : tie.Need-enum-known-a
 enum-known-a c = search needs
 
--- src/rules.rt:30:9
 enum-told : tie.Need-enum-told
 enum-told c = search needs
 
--- src/rules.rt:30:9
 returns : tie.Need-returns
 returns c = ap activityOf (sym (c .enum-told .given .1) ∙ c .before .before .subject-of .ensures)
 
--- src/rules.rt:25:1
 returns-2 : tie.Need-returns-2
 returns-2 c = ap activityOf (sym (c .before .a .given .1) ∙ c .before .before .before .subject-of .ensures)
 

@@ -1,6 +1,6 @@
 use borrow.Author.Needs.{needs}
 use native.Mathlib.Omega.{arith}
-use mathlib.Core.Path.{_≡_, refl, sym, ap, _∙_}
+use mathlib.Core.Path.{refl, sym, _∙_}
 use denote.Ref.{now}
 use Prim.Native.Nat.{_<_, _-_}
 use lib.ListN.{length, getD}
@@ -10,9 +10,6 @@ use Rattle.sheet.specs.Sheet.{endsBy}
 use Rattle.sheet.proofs.RuleLaws.{Asking, asked, refused, goes-on}
 use Rattle.sheet.proofs.rules.after_named.Statement.{statement}
 use Rattle.sheet.proofs.rules.after_named.Tie as tie
-use Rattle.sheet.proofs.rules.after_named.Reads as reads
-use Rattle.sheet.proofs.rules.after_named.Lts as lts
-use Rattle.sheet.proofs.rows.ends_by.Reads as ends-by-reads
 
 abbrev Inv-loop : tie.InvT-loop
 Inv-loop rows firsts named i k₀ k = Asking (λ b. endsBy rows i (getD firsts b 0)) named k
@@ -25,47 +22,36 @@ bound c =
     let b = c .before .before .before .before in
     below-at 128 (now (b .args .named)) (c .before .loop .k) (b .pre .3) (c .loop-test .taken)
 
--- src/rules.rt:103:5
 loop-holds : tie.Need-loop-holds Inv-loop μ-loop
 loop-holds c = record { within = omega arith; left = refl }
 
--- src/rules.rt:104:43
 mul-ends-by : tie.Need-mul-ends-by Inv-loop μ-loop
 mul-ends-by c = search needs
 
--- src/rules.rt:104:43
 shared-slice-read-ends-by : tie.Need-shared-slice-read-ends-by Inv-loop μ-loop
 shared-slice-read-ends-by c = search needs
 
--- src/rules.rt:104:36
 mul-ends-by-2 : tie.Need-mul-ends-by-2 Inv-loop μ-loop
 mul-ends-by-2 c = let l = bound (c .before) in omega arith
 
--- src/rules.rt:104:36
 shared-slice-read-ends-by-2 : tie.Need-shared-slice-read-ends-by-2 Inv-loop μ-loop
 shared-slice-read-ends-by-2 c = let l = bound (c .before .before) in omega arith
 
--- src/rules.rt:104:13
 ends-by-requires : tie.Need-ends-by-requires Inv-loop μ-loop
 ends-by-requires c κs = let b = c .before .before .before .before .before .before in (b .pre .0, b .pre .2 (getD (now (b .args .named)) (c .before .before .before .loop .k) 0) (bound (c .before .before)))
 
--- src/rules.rt:105:13
 returns : tie.Need-returns Inv-loop μ-loop
 returns c = refused (c .before .before .before .before .before .loop .inv) (c .before .before .before .before .loop-test .taken) (sym (c .before .ends-by .ensures) ∙ not-true (c .before .ends-by .result) (c .if1 .taken))
 
--- src/rules.rt:107:9
 add-k : tie.Need-add-k Inv-loop μ-loop
 add-k c = search needs
 
--- src/rules.rt:103:5
 loop-less : tie.Need-loop-less Inv-loop μ-loop
 loop-less c = search needs
 
--- src/rules.rt:103:5
 loop-again : tie.Need-loop-again Inv-loop μ-loop
 loop-again c = goes-on (c .before .before .before .before .before .loop .inv) (c .before .before .before .before .loop-test .taken) (sym (c .before .ends-by .ensures) ∙ not-false (c .before .ends-by .result) (c .if1 .left))
 
--- src/rules.rt:98:1
 returns-2 : tie.Need-returns-2 Inv-loop μ-loop
 returns-2 c = asked (c .before .loop .inv) (c .loop-test .left)
 

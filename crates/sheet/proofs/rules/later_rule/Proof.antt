@@ -1,5 +1,5 @@
 use native.Mathlib.Omega.{arith}
-use mathlib.Core.Path.{_≡_, refl, sym, ap, _∙_}
+use mathlib.Core.Path.{_≡_, sym, ap, _∙_}
 use denote.Ref.{now}
 use Prim.Native.Nat.{ℕ}
 use lib.ListN.{getD}
@@ -13,32 +13,19 @@ use Rattle.sheet.proofs.RuleLaws.{step-asked, names-asked, or-first}
 use borrow.Author.Needs.{needs}
 use Rattle.sheet.proofs.rules.later_rule.Statement.{statement}
 use Rattle.sheet.proofs.rules.later_rule.Tie as tie
-use Rattle.sheet.proofs.rules.later_rule.Reads as reads
-use Rattle.sheet.proofs.rules.later_rule.Lts as lts
-use Rattle.bounds.proofs.release_of.Reads as release-of-reads
-use Rattle.sheet.proofs.rows.ends_by.Reads as ends-by-reads
-use Rattle.sheet.proofs.rows.waits_until.Reads as waits-until-reads
-use Rattle.sheet.proofs.rules.after_named.Reads as after-named-reads
-use Rattle.sheet.proofs.rules.after_step.Reads as after-step-reads
-use Rattle.sheet.proofs.rules.own_rule.Reads as own-rule-reads
-use Rattle.tables.proofs.named_by.Reads as named-by-reads
 
--- src/rules.rt:128:43
 mul-own-rule : tie.Need-mul-own-rule
 mul-own-rule c = search needs
 
--- src/rules.rt:128:43
 shared-slice-read-own-rule : tie.Need-shared-slice-read-own-rule
 shared-slice-read-own-rule c = search needs
 
--- src/rules.rt:128:9
 own-rule-requires : tie.Need-own-rule-requires
 own-rule-requires c κs =
     let b = c .before .before .before .before in let a = b .args in let l = now (a .rows) in let p = problemOf (words (now (a .s))) (a .z) in
     let ok = b .pre .0 .1 in let t = b .pre .0 .2 in let k = b .pre .1 in
     (b .pre .0, (k .0, k .1, k .2, k .3, k .4 .at (a .a) (omega (arith, k .0, ok .activities .1))))
 
--- src/rules.rt:130:9
 returns : tie.Need-returns
 returns c =
     let b = c .before .before .before .before .before .before in let a = b .args in let l = now (a .rows) in let p = problemOf (words (now (a .s))) (a .z) in
@@ -46,15 +33,12 @@ returns c =
     let e = c .before .own-rule .ensures in
     or-first (c .before .own-rule .result) (waitingRule p l (a .i) (a .a) (a .before)) (c .if1 .taken) ∙ ap (λ (x : ℕ). orElse x (waitingRule p l (a .i) (a .a) (a .before))) e
 
--- src/rules.rt:132:9
 release-of-requires : tie.Need-release-of-requires
 release-of-requires c κs = search needs
 
--- src/rules.rt:133:9
 waits-until-requires : tie.Need-waits-until-requires
 waits-until-requires c κs = search needs
 
--- src/rules.rt:134:9
 returns-2 : tie.Need-returns-2
 returns-2 c =
     let b = c .before .before .before .before .before .before .before .before .before in let a = b .args in let l = now (a .rows) in let p = problemOf (words (now (a .s))) (a .z) in
@@ -63,11 +47,9 @@ returns-2 c =
     let e6 : c .before .waits-until .result ≡ waitsUntil l (a .i) (p .release (a .a)) = c .before .waits-until .ensures ∙ ap (waitsUntil l (a .i)) (c .before .before .release-of .ensures p t (k .0)) in
     rw (e0, sym e6 ∙ not-true (c .before .waits-until .result) (c .if2 .taken))
 
--- src/rules.rt:136:9
 ends-by-requires : tie.Need-ends-by-requires
 ends-by-requires c κs = search needs
 
--- src/rules.rt:137:9
 returns-3 : tie.Need-returns-3
 returns-3 c =
     let b = c .before .before .before .before .before .before .before .before .before .before .before in let a = b .args in let l = now (a .rows) in let p = problemOf (words (now (a .s))) (a .z) in
@@ -76,14 +58,12 @@ returns-3 c =
     let e6 : c .before .before .before .waits-until .result ≡ waitsUntil l (a .i) (p .release (a .a)) = c .before .before .before .waits-until .ensures ∙ ap (waitsUntil l (a .i)) (c .before .before .before .before .release-of .ensures p t (k .0)) in
     rw (e0, sym e6 ∙ not-false (c .before .before .before .waits-until .result) (c .before .before .if2 .left), sym (c .before .ends-by .ensures) ∙ not-true (c .before .ends-by .result) (c .if3 .taken))
 
--- src/rules.rt:139:9
 after-step-requires : tie.Need-after-step-requires
 after-step-requires c κs =
     let b = c .before .before .before .before .before .before .before .before .before .before .before in let a = b .args in let l = now (a .rows) in let p = problemOf (words (now (a .s))) (a .z) in
     let ok = b .pre .0 .1 in let t = b .pre .0 .2 in let k = b .pre .1 in
     (record { problem = p; tabled = t; known = k .0; few = ok .activities .1 }, k .3, k .4 .sized, λ x h. omega (arith, first-within (k .4) x h))
 
--- src/rules.rt:140:9
 returns-4 : tie.Need-returns-4
 returns-4 c =
     let b = c .before .before .before .before .before .before .before .before .before .before .before .before .before in let a = b .args in let l = now (a .rows) in let p = problemOf (words (now (a .s))) (a .z) in
@@ -93,18 +73,15 @@ returns-4 c =
     let e8 : c .before .after-step .result ≡ afterStep p l (a .i) (a .a) = c .before .after-step .ensures p t (k .0) ∙ step-asked p (k .4) (ok .activities .1) (a .i) (a .a) (k .0) in
     rw (e0, sym e6 ∙ not-false (c .before .before .before .before .before .waits-until .result) (c .before .before .before .before .if2 .left), sym (c .before .before .before .ends-by .ensures) ∙ not-false (c .before .before .before .ends-by .result) (c .before .before .if3 .left), sym e8 ∙ not-true (c .before .after-step .result) (c .if4 .taken))
 
--- src/rules.rt:142:9
 named-by-requires : tie.Need-named-by-requires
 named-by-requires c κs = search needs
 
--- src/rules.rt:143:9
 after-named-requires : tie.Need-after-named-requires
 after-named-requires c κs =
     let b = c .before .before .before .before .before .before .before .before .before .before .before .before .before .before in let a = b .args in let l = now (a .rows) in let p = problemOf (words (now (a .s))) (a .z) in
     let ok = b .pre .0 .1 in let t = b .pre .0 .2 in let k = b .pre .1 in
     (k .3, k .4 .sized, (λ x h. omega (arith, first-within (k .4) x h)), rw (c .named-by .ensures p t (k .0) (ok .activities .1)) (below-more (p .n) 128 (p .predecessors (a .a)) (ok .activities .1) (ok .predecessors (a .a))))
 
--- src/rules.rt:144:9
 returns-5 : tie.Need-returns-5
 returns-5 c =
     let b = c .before .before .before .before .before .before .before .before .before .before .before .before .before .before .before .before in let a = b .args in let l = now (a .rows) in let p = problemOf (words (now (a .s))) (a .z) in
@@ -115,7 +92,6 @@ returns-5 c =
     let e9 : c .before .after-named .result ≡ afterNamed p l (a .i) (a .a) = c .before .after-named .ensures ∙ ap (all (λ b. endsBy l (a .i) (getD (now (a .firsts)) b 0))) (c .before .before .named-by .ensures p t (k .0) (ok .activities .1)) ∙ names-asked p (k .4) (ok .activities .1) (a .i) (a .a) (ok .predecessors (a .a)) in
     rw (e0, sym e6 ∙ not-false (c .before .before .before .before .before .before .before .before .waits-until .result) (c .before .before .before .before .before .before .before .if2 .left), sym (c .before .before .before .before .before .before .ends-by .ensures) ∙ not-false (c .before .before .before .before .before .before .ends-by .result) (c .before .before .before .before .before .if3 .left), sym e8 ∙ not-false (c .before .before .before .before .after-step .result) (c .before .before .before .if4 .left), sym e9 ∙ not-true (c .before .after-named .result) (c .if5 .taken))
 
--- src/rules.rt:113:1
 returns-6 : tie.Need-returns-6
 returns-6 c =
     let b = c .before .before .before .before .before .before .before .before .before .before .before .before .before .before .before .before in let a = b .args in let l = now (a .rows) in let p = problemOf (words (now (a .s))) (a .z) in

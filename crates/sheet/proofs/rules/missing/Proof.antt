@@ -1,6 +1,5 @@
 use borrow.Author.Needs.{needs}
 use native.Mathlib.Omega.{arith}
-use mathlib.Core.Path.{_≡_, refl, sym, ap, _∙_}
 use denote.Ref.{now}
 use Prim.Native.Nat.{_-_}
 use lib.Dec.{eqb}
@@ -9,8 +8,6 @@ use borrow.Author.Tests.{eq-eqb, ne-eqb}
 use Rattle.sheet.proofs.RuleLaws.{Seeking, all-left, found, seeks-on, none-found}
 use Rattle.sheet.proofs.rules.missing.Statement.{statement}
 use Rattle.sheet.proofs.rules.missing.Tie as tie
-use Rattle.sheet.proofs.rules.missing.Reads as reads
-use Rattle.sheet.proofs.rules.missing.Lts as lts
 
 abbrev Inv-loop : tie.InvT-loop
 Inv-loop firsts n count a₀ a = Seeking (λ x. eqb (getD firsts x 0) count) n a
@@ -18,35 +15,27 @@ Inv-loop firsts n count a₀ a = Seeking (λ x. eqb (getD firsts x 0) count) n a
 abbrev μ-loop : tie.MeasureT-loop
 μ-loop firsts n count a₀ a = n - a
 
--- src/rules.rt:118:5
 loop-holds : tie.Need-loop-holds Inv-loop μ-loop
 loop-holds c = record { within = omega arith; left = all-left (λ x. eqb (getD (now (c .args .firsts)) x 0) (c .args .count)) (c .args .n) }
 
--- src/rules.rt:119:12
 mul-if1 : tie.Need-mul-if1 Inv-loop μ-loop
 mul-if1 c = search needs
 
--- src/rules.rt:119:12
 shared-slice-read-if1 : tie.Need-shared-slice-read-if1 Inv-loop μ-loop
 shared-slice-read-if1 c = search needs
 
--- src/rules.rt:120:13
 returns : tie.Need-returns Inv-loop μ-loop
 returns c = let b = c .before .before .before .before in found (c .before .before .before .loop .inv) (c .before .before .loop-test .taken) (eq-eqb (getD (now (b .args .firsts)) (c .before .before .before .loop .a) 0) (b .args .count) (c .if1 .taken))
 
--- src/rules.rt:122:9
 add-a : tie.Need-add-a Inv-loop μ-loop
 add-a c = search needs
 
--- src/rules.rt:118:5
 loop-less : tie.Need-loop-less Inv-loop μ-loop
 loop-less c = search needs
 
--- src/rules.rt:118:5
 loop-again : tie.Need-loop-again Inv-loop μ-loop
 loop-again c = let b = c .before .before .before .before in seeks-on (c .before .before .before .loop .inv) (c .before .before .loop-test .taken) (ne-eqb (getD (now (b .args .firsts)) (c .before .before .before .loop .a) 0) (b .args .count) (c .if1 .left))
 
--- src/rules.rt:113:1
 returns-2 : tie.Need-returns-2 Inv-loop μ-loop
 returns-2 c = none-found (c .before .loop .inv) (c .loop-test .left)
 

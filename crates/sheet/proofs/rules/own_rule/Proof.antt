@@ -1,7 +1,6 @@
-use native.Mathlib.Omega.{arith}
-use mathlib.Core.Path.{_≡_, refl, sym, ap, _∙_}
+use mathlib.Core.Path.{_≡_, sym, ap, _∙_}
 use denote.Ref.{now}
-use mathlib.Core.Bool.{true, false}
+use mathlib.Core.Bool.{true}
 use lib.Dec.{eqb}
 use borrow.Author.Tests.{eq-eqb, ne-eqb, not-true, not-false}
 use Rattle.words.specs.Words.{words}
@@ -11,50 +10,36 @@ use Rattle.sheet.specs.Sheet.{lasts, spanAfter}
 use borrow.Author.Needs.{needs}
 use Rattle.sheet.proofs.rules.own_rule.Statement.{statement}
 use Rattle.sheet.proofs.rules.own_rule.Tie as tie
-use Rattle.sheet.proofs.rules.own_rule.Reads as reads
-use Rattle.sheet.proofs.rules.own_rule.Lts as lts
-use Rattle.sheet.proofs.rows.ends_early.Reads as ends-early-reads
-use Rattle.sheet.proofs.rows.lasts_for.Reads as lasts-for-reads
-use Rattle.sheet.proofs.rows.starts_late.Reads as starts-late-reads
-use Rattle.sheet.proofs.rules.span_after.Reads as span-after-reads
 
--- src/rules.rt:71:9
 returns : tie.Need-returns
 returns c =
     let b = c .before .before .before in let a = b .args in let f = firstRow (a .z .activities) (a .z .machines) (now (a .rows)) (a .a) in
     rw (ne-eqb f (a .i) (λ e. c .if1 .taken (b .pre .1 .4 ∙ e)))
 
--- src/rules.rt:73:9
 starts-late-requires : tie.Need-starts-late-requires
 starts-late-requires c κs = search needs
 
--- src/rules.rt:74:9
 returns-2 : tie.Need-returns-2
 returns-2 c =
     let b = c .before .before .before .before .before in let a = b .args in let f = firstRow (a .z .activities) (a .z .machines) (now (a .rows)) (a .a) in
     let e2 : eqb f (a .i) ≡ true = eq-eqb f (a .i) (sym (b .pre .1 .4) ∙ c .before .before .if1 .left) in
     rw (e2, sym (c .before .starts-late .ensures) ∙ not-true (c .before .starts-late .result) (c .if2 .taken))
 
--- src/rules.rt:76:9
 ends-early-requires : tie.Need-ends-early-requires
 ends-early-requires c κs = search needs
 
--- src/rules.rt:77:9
 returns-3 : tie.Need-returns-3
 returns-3 c =
     let b = c .before .before .before .before .before .before .before in let a = b .args in let f = firstRow (a .z .activities) (a .z .machines) (now (a .rows)) (a .a) in
     let e2 : eqb f (a .i) ≡ true = eq-eqb f (a .i) (sym (b .pre .1 .4) ∙ c .before .before .before .before .if1 .left) in
     rw (e2, sym (c .before .before .before .starts-late .ensures) ∙ not-false (c .before .before .before .starts-late .result) (c .before .before .if2 .left), sym (c .before .ends-early .ensures) ∙ not-true (c .before .ends-early .result) (c .if3 .taken))
 
--- src/rules.rt:79:9
 span-after-requires : tie.Need-span-after-requires
 span-after-requires c κs = search needs
 
--- src/rules.rt:80:9
 lasts-for-requires : tie.Need-lasts-for-requires
 lasts-for-requires c κs = (c .before .before .before .before .before .before .before .before .pre .1 .3, sym (c .before .before .before .before .starts-late .ensures) ∙ not-false (c .before .before .before .before .starts-late .result) (c .before .before .before .if2 .left))
 
--- src/rules.rt:81:9
 returns-4 : tie.Need-returns-4
 returns-4 c =
     let b = c .before .before .before .before .before .before .before .before .before .before in let a = b .args in let f = firstRow (a .z .activities) (a .z .machines) (now (a .rows)) (a .a) in
@@ -62,7 +47,6 @@ returns-4 c =
     let e5 : c .before .lasts-for .result ≡ lasts (now (a .rows)) (a .i) (spanAfter (problemOf (words (now (a .s))) (a .z)) (now (a .rows)) (a .a) (a .m) (a .before)) = c .before .lasts-for .ensures ∙ ap (lasts (now (a .rows)) (a .i)) (c .before .before .span-after .ensures) in
     rw (e2, sym (c .before .before .before .before .before .before .starts-late .ensures) ∙ not-false (c .before .before .before .before .before .before .starts-late .result) (c .before .before .before .before .before .if2 .left), sym (c .before .before .before .before .ends-early .ensures) ∙ not-false (c .before .before .before .before .ends-early .result) (c .before .before .before .if3 .left), sym e5 ∙ not-true (c .before .lasts-for .result) (c .if4 .taken))
 
--- src/rules.rt:55:1
 returns-5 : tie.Need-returns-5
 returns-5 c =
     let b = c .before .before .before .before .before .before .before .before .before .before in let a = b .args in let f = firstRow (a .z .activities) (a .z .machines) (now (a .rows)) (a .a) in

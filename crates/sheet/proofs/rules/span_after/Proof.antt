@@ -1,7 +1,5 @@
 use native.Mathlib.Omega.{arith}
-use mathlib.Core.Path.{_≡_, refl, sym, ap, _∙_}
 use denote.Ref.{now}
-use Prim.Native.Nat.{_<_, _^_}
 use Rattle.words.specs.Words.{words}
 use Rattle.plan.specs.Input.{problemOf, genesOf}
 use Rattle.graph.specs.Counting.{Below}
@@ -11,24 +9,16 @@ use Rattle.sheet.proofs.RuleLaws.{setup-short}
 use borrow.Author.Needs.{needs}
 use Rattle.sheet.proofs.rules.span_after.Statement.{statement}
 use Rattle.sheet.proofs.rules.span_after.Tie as tie
-use Rattle.sheet.proofs.rules.span_after.Reads as reads
-use Rattle.sheet.proofs.rules.span_after.Lts as lts
-use Rattle.bounds.proofs.setup_of.Reads as setup-of-reads
-use Rattle.bounds.proofs.span.Reads as span-reads
-use Rattle.sheet.proofs.rules.activity_of.Reads as activity-of-reads
 
--- src/rules.rt:49:9
 activity-of-requires : tie.Need-activity-of-requires
 activity-of-requires c κs = search needs
 
--- src/rules.rt:50:9
 setup-of-requires : tie.Need-setup-of-requires
 setup-of-requires c κs =
     let b = c .before .before .before in let a = b .args in
     let e : Below (a .z .activities) (linked (c .activity-of .result)) = rw (c .activity-of .ensures) (linked-below (a .z .activities) (a .z .machines) (now (a .rows)) (a .before)) in
     (b .pre .0, (b .pre .1 .0, b .pre .1 .1, e))
 
--- src/rules.rt:51:5
 span-requires : tie.Need-span-requires
 span-requires c κs =
     let b = c .before .before .before .before in let a = b .args in
@@ -37,7 +27,6 @@ span-requires c κs =
     let e = c .setup-of .ensures in let l = b .pre .0 .0 in
     (l, omega (arith, b .pre .1 .0, l .activities), omega (arith, b .pre .1 .1, l .machines), omega (arith, e, h))
 
--- src/rules.rt:36:1
 returns : tie.Need-returns
 returns c = rw (← c .before .before .activity-of .ensures, ← c .before .setup-of .ensures) (c .span .ensures)
 
