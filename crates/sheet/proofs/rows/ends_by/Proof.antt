@@ -1,3 +1,4 @@
+use native.Mathlib.Omega.{arith}
 use Rattle.sheet.specs.Rows.{startIn, endIn}
 use borrow.Author.Tests.{lt-ltb, le-ltb}
 use borrow.Author.Needs.{sfits-of}
@@ -17,7 +18,7 @@ add-last : tie.Need-add-last
 add-last c = search needs
 
 returns : tie.Need-returns
-returns c = rw (le-ltb (4 * c .before .args .r + 3) (length (now (c .before .args .rows))) (c .if1 .taken))
+returns c = rw (le-ltb (4 * c .before .args .r + 3) (length (now (c .before .args .rows))) (omega arith))
 
 mul-result : tie.Need-mul-result
 mul-result c = search needs
@@ -41,7 +42,7 @@ returns-2 : tie.Need-returns-2
 returns-2 c =
     let b = c .before .before .before in
     let e = endIn (now (b .args .rows)) (b .args .r) in let s = startIn (now (b .args .rows)) (b .args .i) in
-    rw (toZ-ofZ (sfits-of {w = w64} {z = e} (c .before .result .given)), toZ-ofZ (sfits-of {w = w64} {z = s} (c .result2 .given)), lt-ltb (4 * b .args .r + 3) (length (now (b .args .rows))) (c .before .before .if1 .left))
+    rw (toZ-ofZ (sfits-of {w = w64} {z = e} (c .before .result .given)), toZ-ofZ (sfits-of {w = w64} {z = s} (c .result2 .given)), lt-ltb (4 * b .args .r + 3) (length (now (b .args .rows))) (omega arith))
 
 pub ends-by-spec : {M : Type 1} → statement M
 ends-by-spec =

@@ -1,3 +1,4 @@
+use native.Mathlib.Omega.{arith}
 use mir.Syntax.{w64}
 use mir.Facts.{toZ-ofZ}
 use borrow.Author.Needs.{sfits-of}
@@ -17,7 +18,7 @@ add-if1 : tie.Need-add-if1
 add-if1 c = search needs
 
 returns : tie.Need-returns
-returns c = rw (le-ltb (4 * c .before .args .i + 3) (length (now (c .before .args .rows))) (c .if1 .taken))
+returns c = rw (le-ltb (4 * c .before .args .i + 3) (length (now (c .before .args .rows))) (omega arith))
 
 mul-subject : tie.Need-mul-subject
 mul-subject c = search needs
@@ -42,7 +43,7 @@ returns-2 c =
     let b = c .before .before .before .before in
     let x = activityIn (now (b .args .rows)) (b .args .i) in let y = machineIn (now (b .args .rows)) (b .args .i) in
     let f = sfits-of {w = w64} {z = x} (c .before .before .subject-arg .given) in let g = sfits-of {w = w64} {z = y} (c .before .subject-arg2 .given) in
-    rw (lt-ltb (4 * b .args .i + 3) (length (now (b .args .rows))) (c .before .before .before .if1 .left)) (rw (toZ-ofZ f, toZ-ofZ g) at (c .subject .ensures))
+    rw (lt-ltb (4 * b .args .i + 3) (length (now (b .args .rows))) (omega arith)) (rw (toZ-ofZ f, toZ-ofZ g) at (c .subject .ensures))
 
 pub subject-of-spec : {M : Type 1} → statement M
 subject-of-spec =
