@@ -65,7 +65,7 @@ module _ (p : Problem) (l : List ℤ) (ok : checkSheet p l ≡ Accepted) where
     unfolding start end
     times =
         lasts-means (spanAfter p l (activity i) (machine i) (rowBefore (p .n) (p .machines) l (machine i) i)) (endIn l i) (startIn l i)
-        (kept .late) (kept .lasting)
+        (kept .from-zero) (kept .lasting)
 
     first-itself : firstRow (p .n) (p .machines) l (activity i) ≡ i
     first-itself = eqb-true (firstRow (p .n) (p .machines) l (activity i)) i (kept .first)
@@ -127,7 +127,7 @@ module _ (p : Problem) (l : List ℤ) (ok : checkSheet p l ≡ Accepted) where
         reads = λ i h. (meets i h .activity, meets i h .machine, times i h .0, times i h .1);
         known = λ i h. (meets i h .known, meets i h .able);
         once = λ j i b h e. omega (arith, first-itself j (omega arith), first-itself i h, ap (firstRow (p .n) (p .machines) l) e);
-        in-time = λ i h. let w : leZ (pos (end i)) (pos 1101659110911) ≡ true = rw (times i h .1) at (kept i h .early) in leb-true (end i) 1101659110911 w;
+        in-time = λ i h. let w : leZ (pos (end i)) (pos 1101659110911) ≡ true = rw (times i h .1) at (kept i h .in-time) in leb-true (end i) 1101659110911 w;
         lasts-first = λ i h none.
             times i h .2
             ∙ ap (λ (r : ℕ). start i + spanAfter p l (activity i) (machine i) r) (before-first i h none)

@@ -4,21 +4,21 @@ use mathlib.Core.Path.{_≡_, refl, sym, ap, _∙_, subst}
 use mathlib.Core.Bool.{Bool, true, false, _&&_}
 use mathlib.Core.List.{List, [], _∷_}
 use native.Mathlib.Omega.{arith}
-use lib.Dec.{eqb, ltb}
+use lib.Dec.{ltb}
 use lib.IntN.{ℤ}
 use Rattle.words.specs.Signed.{clamp}
 use Rattle.graph.proofs.CountingLaws.{either}
 use Rattle.plan.specs.Problem.{Problem}
-use Rattle.sheet.specs.Rows.{rowsIn, isWhole, isBelow, activityIn, machineIn, subjectIf, subjectOf, firstRow, rowBefore}
-use Rattle.sheet.specs.Sheet.{startsLate, endsEarly, lasts, spanAfter, waitsUntil, endsBy, afterStep, afterNamed, firstBroken, orElse, ownRule, waitingRule, laterRule, ruleOf, brokenRule, rowless, missingIf, badOr, checkFrom, checkSheet}
+use Rattle.sheet.specs.Rows.{rowsIn, isWhole, isBelow, activityIn, machineIn, subjectIf, subjectOf, rowBefore}
+use Rattle.sheet.specs.Sheet.{isFirst, startsFromZero, endsInTime, lasts, spanAfter, waitsUntil, endsBy, afterStep, afterNamed, firstBroken, orElse, ownRule, waitingRule, laterRule, ruleOf, brokenRule, rowless, missingIf, badOr, checkFrom, checkSheet}
 use Rattle.sheet.specs.declared.Subject.the-variants.{Known}
 use Rattle.sheet.specs.declared.Verdict.{Verdict}
 use Rattle.sheet.specs.declared.Verdict.the-variants.{Accepted}
 
 pub record Kept (p : Problem) (l : List ℤ) (i a m : ℕ) : Type 0 where
-  pub first : eqb (firstRow (p .n) (p .machines) l a) i ≡ true
-  pub late : startsLate l i ≡ true
-  pub early : endsEarly l i ≡ true
+  pub first : isFirst p l i a ≡ true
+  pub from-zero : startsFromZero l i ≡ true
+  pub in-time : endsInTime l i ≡ true
   pub lasting : lasts l i (spanAfter p l a m (rowBefore (p .n) (p .machines) l m i)) ≡ true
   pub released : waitsUntil l i (p .release a) ≡ true
   pub lined : endsBy l i (rowBefore (p .n) (p .machines) l m i) ≡ true
@@ -57,13 +57,13 @@ module _ (p : Problem) (l : List ℤ) where
           let before = rowBefore (p .n) (p .machines) l m i in
           let q : laterRule p l i a m before ≡ 0 = sym (ap (ruleOf p l i) s) ∙ e in
           let o = or-zero (ownRule p l i a m before) (waitingRule p l i a before) q in
-          let w = none-broken 1 (eqb (firstRow (p .n) (p .machines) l a) i) (startsLate l i) (endsEarly l i) (lasts l i (spanAfter p l a m before)) (o .0) in
+          let w = none-broken 1 (isFirst p l i a) (startsFromZero l i) (endsInTime l i) (lasts l i (spanAfter p l a m before)) (o .0) in
           let v = none-broken 5 (waitsUntil l i (p .release a)) (endsBy l i before) (afterStep p l i a) (afterNamed p l i a) (o .1) in
-          record { first = w .0; late = w .1; early = w .2; lasting = w .3; released = v .0; lined = v .1; stepped = v .2; named = v .3 }
+          record { first = w .0; from-zero = w .1; in-time = w .2; lasting = w .3; released = v .0; lined = v .1; stepped = v .2; named = v .3 }
 
       pub kept-good : Kept p l i a m → brokenRule p l i ≡ 0
       kept-good k =
-          ap (ruleOf p l i) s ∙ rw (k .first, k .late, k .early, k .lasting, k .released, k .lined, k .stepped, k .named)
+          ap (ruleOf p l i) s ∙ rw (k .first, k .from-zero, k .in-time, k .lasting, k .released, k .lined, k .stepped, k .named)
 
   -- ---- the whole sheet
 

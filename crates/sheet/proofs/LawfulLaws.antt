@@ -137,8 +137,8 @@ module _ (p : Problem) (l : List ℤ) (s : Lawful p l) where
     kept =
         record {
           first = eq-eqb (firstRow (p .n) (p .machines) l (s .activity i)) i (first-itself i h);
-          late = rw (s .reads i h .2) (le-leb 0 (s .start i) (omega arith));
-          early = rw (s .reads i h .3) (le-leb (s .end i) 1101659110911 (s .in-time i h));
+          from-zero = rw (s .reads i h .2) (le-leb 0 (s .start i) (omega arith));
+          in-time = rw (s .reads i h .3) (le-leb (s .end i) 1101659110911 (s .in-time i h));
           lasting = lined .0;
           released = rw (s .reads i h .2) (le-leb (p .release (s .activity i)) (s .start i) (s .released i h));
           lined = lined .1;

@@ -7,4 +7,5 @@ pub mod KeptLaws
 pub mod AcceptedLaws
 pub mod LawfulLaws
 pub mod AcceptsExactly
+pub mod EarlierRows
 pub mod Worked

@@ -2,7 +2,7 @@
 -- 4 end <= 1,101,659,110,911; 5 end - start is the span; then start is not before 6 release, 7 line predecessor's end, 8 task predecessor's end,
 -- 9 each predecessor's end. A task or named predecessor is looked for in all rows, its first that meets rule 1; without one it binds nothing.
 -- The answer: the first bad row, its first broken rule; else rule 10, the lowest activity without a row; else accepted.
--- An earlier row that breaks rule 1 is itself the first bad one, so rules 2 and 7 look only at rows that meet it.
+-- An earlier row that breaks rule 1 is itself the first bad one, so rules 2, 5 and 7 look only at rows that meet it (proofs/EarlierRows).
 use Prim.Native.Nat.{ℕ, zero, suc}
 use mathlib.Core.Bool.{Bool, true, false, cond, _&&_}
 use mathlib.Core.List.{List, [], _∷_}
@@ -30,31 +30,40 @@ unfoldable pub all : (ℕ → Bool) → List ℕ → Bool
 all test [] = true
 all test (x ∷ l) = test x && all test l
 
--- Row i does not start before row r ends, if there is a row r.
-abbrev pub endsBy : List ℤ → (i r : ℕ) → Bool
-endsBy l i r = cond (isWhole l r) (leZ (endIn l r) (startIn l i)) true
+-- ---- rules 2 to 9 of row i, which has activity a on machine m after row `before` of that machine
 
--- ---- rules 3 to 9 of row i, which has activity a on machine m after row `before` of that machine
+-- 2
+abbrev pub isFirst : Problem → List ℤ → (i a : ℕ) → Bool
+isFirst p l i a = eqb (firstRow (p .n) (p .machines) l a) i
 
-abbrev pub startsLate : List ℤ → ℕ → Bool
-startsLate l i = leZ (pos 0) (startIn l i)
+-- 3
+abbrev pub startsFromZero : List ℤ → ℕ → Bool
+startsFromZero l i = leZ (pos 0) (startIn l i)
 
-abbrev pub endsEarly : List ℤ → ℕ → Bool
-endsEarly l i = leZ (endIn l i) largestEnd
+-- 4
+abbrev pub endsInTime : List ℤ → ℕ → Bool
+endsInTime l i = leZ (endIn l i) largestEnd
 
+-- 5
 abbrev pub lasts : List ℤ → (i span : ℕ) → Bool
 lasts l i span = sameZ (endIn l i -ℤ startIn l i) (pos span)
 
 abbrev pub spanAfter : Problem → List ℤ → (a m before : ℕ) → ℕ
 spanAfter p l a m before = spanOf p a m (setupOf p a m (activityOf (subjectOf (p .n) (p .machines) l before)))
 
+-- 6
 abbrev pub waitsUntil : List ℤ → (i release : ℕ) → Bool
 waitsUntil l i release = leZ (pos release) (startIn l i)
 
--- The step before in its task.
+-- 7, and what rules 8 and 9 ask of each predecessor: row i does not start before row r ends, if there is a row r
+abbrev pub endsBy : List ℤ → (i r : ℕ) → Bool
+endsBy l i r = cond (isWhole l r) (leZ (endIn l r) (startIn l i)) true
+
+-- 8
 abbrev pub afterStep : Problem → List ℤ → (i a : ℕ) → Bool
 afterStep p l i a = all (λ b. endsBy l i (firstRow (p .n) (p .machines) l b)) (linked (taskPred p a))
 
+-- 9
 abbrev pub afterNamed : Problem → List ℤ → (i a : ℕ) → Bool
 afterNamed p l i a = all (λ b. endsBy l i (firstRow (p .n) (p .machines) l b)) (p .predecessors a)
 
@@ -74,7 +83,7 @@ orElse (suc x) y = suc x
 abbrev pub ownRule : Problem → List ℤ → (i a m before : ℕ) → ℕ
 ownRule p l i a m before =
     firstBroken 2
-    (eqb (firstRow (p .n) (p .machines) l a) i ∷ startsLate l i ∷ endsEarly l i ∷ lasts l i (spanAfter p l a m before) ∷ [])
+    (isFirst p l i a ∷ startsFromZero l i ∷ endsInTime l i ∷ lasts l i (spanAfter p l a m before) ∷ [])
 
 abbrev pub waitingRule : Problem → List ℤ → (i a before : ℕ) → ℕ
 waitingRule p l i a before =
@@ -106,7 +115,7 @@ abbrev pub badOr : ℕ → ℕ → Verdict → Verdict
 badOr zero i verdict = verdict
 badOr (suc rule) i verdict = Bad (suc rule) i
 
--- .. of k rows from row i on.
+-- The answer to k rows from row i on, of the rows of l.
 unfoldable pub checkFrom : Problem → List ℤ → (k i : ℕ) → Verdict
 checkFrom p l zero i = missingIf (ltb (rowless p l) (p .n)) (rowless p l)
 checkFrom p l (suc k) i = badOr (brokenRule p l i) i (checkFrom p l k (suc i))

@@ -5,7 +5,7 @@ ghost use mathlib.Core.Bool.{true, _&&_};
 ghost use Prim.Native.Nat.{_+_, _*_, _^_, _<_, _≤_};
 ghost use lib.ListN.{length};
 ghost use Rattle.sheet.specs.Rows.{rowsIn, isBelow, subjectIf, subjectOf, FirstRows};
-ghost use Rattle.sheet.specs.Sheet.{endsBy, startsLate, endsEarly, lasts, waitsUntil};
+ghost use Rattle.sheet.specs.Sheet.{endsBy, startsFromZero, endsInTime, lasts, waitsUntil};
 
 // 513 * 2,147,483,647
 const LARGEST_END: i64 = 1_101_659_110_911;
@@ -72,24 +72,24 @@ pub fn first_rows(rows: &[i64], n: usize, machines: usize) -> [usize; 128]
 }
 
 // Rule 3.
-pub fn starts_late(rows: &[i64], i: usize) -> bool
+pub fn starts_from_zero(rows: &[i64], i: usize) -> bool
     requires { ⌜ 4 * i + 3 < length (now rows) ⌝ }
-    ensures { λ r. ⌜ r ≡ startsLate (now (rows .entry)) i ⌝ }
+    ensures { λ r. ⌜ r ≡ startsFromZero (now (rows .entry)) i ⌝ }
 {
     0 <= rows[4 * i + 2]
 }
 
 // Rule 4.
-pub fn ends_early(rows: &[i64], i: usize) -> bool
+pub fn ends_in_time(rows: &[i64], i: usize) -> bool
     requires { ⌜ 4 * i + 3 < length (now rows) ⌝ }
-    ensures { λ r. ⌜ r ≡ endsEarly (now (rows .entry)) i ⌝ }
+    ensures { λ r. ⌜ r ≡ endsInTime (now (rows .entry)) i ⌝ }
 {
     rows[4 * i + 3] <= LARGEST_END
 }
 
 // Rule 5, for a row whose start is not negative. An end before the start could be so far before it that their difference is no 64-bit number.
 pub fn lasts_for(rows: &[i64], i: usize, span: u64) -> bool
-    requires { ⌜ (4 * i + 3 < length (now rows)) × (startsLate (now rows) i ≡ true) ⌝ }
+    requires { ⌜ (4 * i + 3 < length (now rows)) × (startsFromZero (now rows) i ≡ true) ⌝ }
     ensures { λ r. ⌜ r ≡ lasts (now (rows .entry)) i span ⌝ }
 {
     let start = rows[4 * i + 2];

@@ -70,10 +70,10 @@ fn own_rule(
     if first != i {
         return 2;
     }
-    if !rows::starts_late(rows, i) {
+    if !rows::starts_from_zero(rows, i) {
         return 3;
     }
-    if !rows::ends_early(rows, i) {
+    if !rows::ends_in_time(rows, i) {
         return 4;
     }
     let span = span_after(s, z, table, rows, a, m, before);

@@ -1,8 +1,10 @@
+-- `sheet::check_rows` meets its contract. The loop's invariant: for each machine its last row before row i is known, and the answer to the
+-- rows from i on is the answer to all.
 use borrow.Author.Needs.{needs}
 use native.Mathlib.Omega.{arith}
 use mathlib.Core.Path.{_≡_, sym, _∙_}
 use denote.Ref.{now}
-use Prim.Native.Nat.{_<_, _-_}
+use Prim.Native.Nat.{ℕ, _<_, _-_}
 use Rattle.words.specs.Words.{words}
 use Rattle.plan.specs.Input.{problemOf}
 use Rattle.sheet.specs.Rows.{rowsIn, subjectOf}
@@ -22,15 +24,23 @@ abbrev μ-loop : tie.MeasureT-loop
 inside : (c : tie.In-loop Inv-loop μ-loop) → c .before .loop .i < rowsIn (now (c .before .before .before .before .before .before .args .rows))
 inside c = omega (arith, c .loop-test .taken, c .before .before .row-count .ensures)
 
--- Its activity and machine are known.
-known : (c : tie.After-a Inv-loop μ-loop) → subjectOf (c .before .before .before .before .before .before .before .before .before .args .z .activities) (c .before .before .before .before .before .before .before .before .before .args .z .machines) (now (c .before .before .before .before .before .before .before .before .before .args .rows)) (c .before .before .before .before .loop .i) ≡ Known (c .a .given .0 .0) (c .a .given .0 .1 .0)
+-- Its activity and its machine are known.
+abbrev entry : tie.After-a Inv-loop μ-loop → tie.Start Inv-loop μ-loop
+entry c = c .before .before .before .before .before .before .before .before .before
+
+abbrev row : tie.After-a Inv-loop μ-loop → ℕ
+row c = c .before .before .before .before .loop .i
+
+known : (c : tie.After-a Inv-loop μ-loop)
+    → subjectOf (entry c .args .z .activities) (entry c .args .z .machines) (now (entry c .args .rows)) (row c) ≡ Known (c .a .given .0 .0) (c .a .given .0 .1 .0)
 known c = sym (c .before .before .subject-of .ensures) ∙ c .a .given .1
 
-meets : (c : tie.After-a Inv-loop μ-loop) → Meets (c .before .before .before .before .before .before .before .before .before .args .z .activities) (c .before .before .before .before .before .before .before .before .before .args .z .machines) (now (c .before .before .before .before .before .before .before .before .before .args .rows)) (c .before .before .before .before .loop .i) (c .a .given .0 .0) (c .a .given .0 .1 .0)
-meets c = let b = c .before .before .before .before .before .before .before .before .before in known-meets (b .args .z .activities) (b .args .z .machines) (now (b .args .rows)) (c .before .before .before .before .loop .i) (known c)
+meets : (c : tie.After-a Inv-loop μ-loop)
+    → Meets (entry c .args .z .activities) (entry c .args .z .machines) (now (entry c .args .rows)) (row c) (c .a .given .0 .0) (c .a .given .0 .1 .0)
+meets c = known-meets (entry c .args .z .activities) (entry c .args .z .machines) (now (entry c .args .rows)) (row c) (known c)
 
 able : (c : tie.After-a Inv-loop μ-loop) → c .a .given .0 .1 .0 < 16
-able c = let b = c .before .before .before .before .before .before .before .before .before in omega (arith, meets c .able, b .pre .0 .0 .machines)
+able c = omega (arith, meets c .able, entry c .pre .0 .0 .machines)
 
 row-count-requires : tie.Need-row-count-requires Inv-loop μ-loop
 row-count-requires c κs = search needs

@@ -1,3 +1,4 @@
+-- `sheet::first_rows` meets its contract. The loop's invariant: each cell holds the first row of its activity among the rows from i on.
 use borrow.Author.Needs.{needs}
 use native.Mathlib.Omega.{arith}
 use mathlib.Core.Path.{_≡_, sym, _∙_}
@@ -15,14 +16,17 @@ Inv-loop rows n machines count firsts₀ i₀ firsts i = Filling n machines rows
 abbrev μ-loop : tie.MeasureT-loop
 μ-loop rows n machines count firsts₀ i₀ firsts i = i
 
-known : (c : tie.After-a Inv-loop μ-loop) → subjectOf (c .before .before .before .before .before .before .args .n) (c .before .before .before .before .before .before .args .machines) (now (c .before .before .before .before .before .before .args .rows)) (c .before .before .before .before .loop .i - 1) ≡ Known (c .a .given .0 .0) (c .a .given .0 .1 .0)
+abbrev entry : tie.After-a Inv-loop μ-loop → tie.Start Inv-loop μ-loop
+entry c = c .before .before .before .before .before .before
+
+known : (c : tie.After-a Inv-loop μ-loop)
+    → subjectOf (entry c .args .n) (entry c .args .machines) (now (entry c .args .rows)) (c .before .before .before .before .loop .i - 1) ≡ Known (c .a .given .0 .0) (c .a .given .0 .1 .0)
 known c = sym (c .before .before .subject-of .ensures) ∙ c .a .given .1
 
 bound : (c : tie.After-a Inv-loop μ-loop) → c .a .given .0 .0 < 128
 bound c =
-    let b = c .before .before .before .before .before .before in
-    let k = known-meets (b .args .n) (b .args .machines) (now (b .args .rows)) (c .before .before .before .before .loop .i - 1) (known c) .known in
-    omega (arith, k, b .pre)
+    let k = known-meets (entry c .args .n) (entry c .args .machines) (now (entry c .args .rows)) (c .before .before .before .before .loop .i - 1) (known c) .known in
+    omega (arith, k, entry c .pre)
 
 row-count-requires : tie.Need-row-count-requires Inv-loop μ-loop
 row-count-requires c κs = search needs

@@ -1,3 +1,4 @@
+-- `sheet::after_named` meets its contract. The loop's invariant: what is left of those named decides as all of them do.
 use borrow.Author.Needs.{needs}
 use native.Mathlib.Omega.{arith}
 use mathlib.Core.Path.{refl, sym, _∙_}

@@ -1,3 +1,4 @@
+-- `sheet::missing` meets its contract. The loop's invariant: the first without a row of the activities from a on is the first of all.
 use borrow.Author.Needs.{needs}
 use native.Mathlib.Omega.{arith}
 use denote.Ref.{now}

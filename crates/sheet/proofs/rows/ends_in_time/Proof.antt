@@ -1,6 +1,6 @@
 use borrow.Author.Needs.{needs}
-use Rattle.sheet.proofs.rows.starts_late.Statement.{statement}
-use Rattle.sheet.proofs.rows.starts_late.Tie as tie
+use Rattle.sheet.proofs.rows.ends_in_time.Statement.{statement}
+use Rattle.sheet.proofs.rows.ends_in_time.Tie as tie
 
 mul-result : tie.Need-mul-result
 mul-result c = search needs
@@ -17,6 +17,6 @@ shared-slice-copy-out-result c = search needs
 returns : tie.Need-returns
 returns c = search needs
 
-pub starts-late-spec : {M : Type 1} → statement M
-starts-late-spec =
+pub ends-in-time-spec : {M : Type 1} → statement M
+ends-in-time-spec =
     tie.close (tie.spec mul-result add-result mul-result-2 shared-slice-copy-out-result returns)

@@ -1,6 +1,6 @@
 use borrow.Author.Needs.{needs}
-use Rattle.sheet.proofs.rows.ends_early.Statement.{statement}
-use Rattle.sheet.proofs.rows.ends_early.Tie as tie
+use Rattle.sheet.proofs.rows.starts_from_zero.Statement.{statement}
+use Rattle.sheet.proofs.rows.starts_from_zero.Tie as tie
 
 mul-result : tie.Need-mul-result
 mul-result c = search needs
@@ -17,6 +17,6 @@ shared-slice-copy-out-result c = search needs
 returns : tie.Need-returns
 returns c = search needs
 
-pub ends-early-spec : {M : Type 1} → statement M
-ends-early-spec =
+pub starts-from-zero-spec : {M : Type 1} → statement M
+starts-from-zero-spec =
     tie.close (tie.spec mul-result add-result mul-result-2 shared-slice-copy-out-result returns)
