@@ -4,8 +4,8 @@ pub mod RuleLaws
 pub mod CheckLaws
 pub mod FindLaws
 pub mod KeptLaws
-pub mod AcceptedLaws
-pub mod LawfulLaws
-pub mod AcceptsExactly
+pub mod LawfulOnly
+pub mod LawfulAccepted
+pub mod Theorem
 pub mod EarlierRows
 pub mod Worked

@@ -1,4 +1,4 @@
--- What an accepted sheet is, in plain sentences about its rows. `accepts-exactly` in proofs/ says that the check accepts these sheets and no
+-- What an accepted sheet is, in plain sentences about its rows. `accepts-exactly` in proofs/Theorem says that the check accepts these sheets and no
 -- others. No number of such a sheet is negative, so its rows are natural numbers; that is rule 3 and a part of rule 1.
 use Prim.Native.Nat.{ℕ, _+_, _*_, _≤_, _<_}
 use mathlib.Core.Path.{_≡_}
