@@ -1,7 +1,7 @@
 -- The check accepts a lawful sheet.
 use Prim.Native.Nat.{ℕ, _+_, _*_, _≤_, _<_}
 use mathlib.Core.Path.{_≡_, refl, sym, ap, _∙_, subst}
-use mathlib.Core.Bool.{Bool, true, false}
+use mathlib.Core.Bool.{Bool, true, false, cond}
 use mathlib.Core.List.{List}
 use mathlib.Core.Logic.{_⊎_, ⊎-elim}
 use native.Mathlib.Omega.{arith}
@@ -9,6 +9,7 @@ use borrow.Author.Tests.{le-ltb, le-leb, eqb-true, eqb-false, eq-eqb, ne-eqb}
 use lib.Dec.{eqb}
 use lib.ListN.{length}
 use lib.IntN.{ℤ, pos}
+use lib.Signed.{leZ}
 use Rattle.graph.specs.Counting.{countOf}
 use Rattle.graph.specs.Links.{linked}
 use Rattle.graph.specs.declared.Link.{Link}
@@ -29,8 +30,11 @@ use Rattle.sheet.proofs.KeptLaws.{Kept, kept-good, rows-accepted}
 late-ends : (l : List ℤ) (i r x y : ℕ) → endIn l r ≡ pos x → startIn l i ≡ pos y → x ≤ y → endsBy l i r ≡ true
 late-ends l i r x y e f h = go (isWhole l r) refl
   where
+    not-before : leZ (endIn l r) (startIn l i) ≡ true
+    not-before = rw (e, f) (le-leb x y h)
+
     go : (t : Bool) → isWhole l r ≡ t → endsBy l i r ≡ true
-    go true w = rw (w, e, f, le-leb x y h)
+    go true w = ap (λ (t : Bool). cond t (leZ (endIn l r) (startIn l i)) true) w ∙ not-before
     go false w = rw w
 
 past-ends : (l : List ℤ) (i : ℕ) → endsBy l i (rowsIn l) ≡ true

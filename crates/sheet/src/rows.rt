@@ -71,7 +71,7 @@ pub fn first_rows(rows: &[i64], n: usize, machines: usize) -> [usize; 128]
     firsts
 }
 
-// Rule 3.
+// Rule 3: the start is not negative.
 pub fn starts_from_zero(rows: &[i64], i: usize) -> bool
     requires { ⌜ 4 * i + 3 < length (now rows) ⌝ }
     ensures { λ r. ⌜ r ≡ startsFromZero (now (rows .entry)) i ⌝ }
@@ -79,7 +79,7 @@ pub fn starts_from_zero(rows: &[i64], i: usize) -> bool
     0 <= rows[4 * i + 2]
 }
 
-// Rule 4.
+// Rule 4: the end is not past the largest.
 pub fn ends_in_time(rows: &[i64], i: usize) -> bool
     requires { ⌜ 4 * i + 3 < length (now rows) ⌝ }
     ensures { λ r. ⌜ r ≡ endsInTime (now (rows .entry)) i ⌝ }
@@ -101,7 +101,7 @@ pub fn lasts_for(rows: &[i64], i: usize, span: u64) -> bool
     lasting == span
 }
 
-// Rule 6.
+// Rule 6: the start is not before the release.
 pub fn waits_until(rows: &[i64], i: usize, release: u64) -> bool
     requires { ⌜ 4 * i + 3 < length (now rows) ⌝ }
     ensures { λ r. ⌜ r ≡ waitsUntil (now (rows .entry)) i release ⌝ }
