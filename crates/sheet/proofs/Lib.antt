@@ -1,0 +1,11 @@
+pub mod NumberLaws
+pub mod SearchLaws
+pub mod RuleLaws
+pub mod CheckLaws
+pub mod FindLaws
+pub mod KeptLaws
+pub mod LawfulOnly
+pub mod LawfulAccepted
+pub mod Theorem
+pub mod EarlierRows
+pub mod Worked
