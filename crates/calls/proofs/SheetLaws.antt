@@ -14,12 +14,30 @@ use Rattle.plan.specs.Accepted.{Accepted}
 use Rattle.lines.specs.Lines.{Lines, WellFormed, machineOf}
 use Rattle.intake.specs.Circle.{each}
 use Rattle.intake.proofs.BareShop.{each-at, length-each}
-use Rattle.timing.specs.Timing.{timingOrder, countsFor, startsOf, endsOf, setupsOf}
+use Rattle.timing.specs.Timing.{timingOrder, countsFor, contradicts, spanAt, startsOf, startOf, endsOf, setupsOf}
 use Rattle.timing.specs.Placing.{Seated, Timed}
 use Rattle.timing.proofs.LinesShop.{shop, counted}
+use Rattle.timing.proofs.EndLaws.{ends-most}
 use Rattle.timing.proofs.PlacingLaws.{starts-length}
+use Rattle.timing.proofs.TimedLaws.{false-is-not-true}
 use Rattle.rows.specs.Rows.{Columns, columnsOf, Roomy, Written}
-use Rattle.calls.specs.Timing.{sheetOf}
+use Rattle.fitness.specs.Fitness.{fitnessOf}
+use Rattle.fitness.specs.Ended.{Ended}
+use lib.Ieee.{Float}
+use lib.Dec.{leb}
+use borrow.Author.Tests.{leb-true}
+use Rattle.reader.specs.declared.Reading.{Reading}
+use Rattle.reader.specs.declared.Answer.{Answer}
+use Rattle.reader.specs.declared.Answer.the-variants.{Accepted as Read, No}
+use Rattle.plan.specs.Found.{layoutOf}
+use Rattle.plan.specs.declared.Layout.{Layout}
+use Rattle.tables.specs.Tabled.{Tabled}
+use Rattle.intake.specs.Intake.{problemIn, takenIn}
+use Rattle.intake.proofs.Soundness.{taken-in-means}
+use Rattle.calls.specs.Asked.{Taken}
+use Rattle.calls.specs.declared.Answer.the-variants.{Refused, Rows}
+use Rattle.calls.specs.Outcome.{Outcome, no, answerOf, Leaves}
+use Rattle.calls.specs.Timing.{sheetOf, fitnessOn, eightIf, sevenUnless, timedLines, timedIf, timedPlan, sixUnless, roomy}
 
 module _ (p : Problem) (g : Genes) (ok : Accepted p g) (lines : Lines) (w : WellFormed (p .n) (p .machines) lines) {before on order begun done : List ℕ}
     (s : Seated (p .n) lines before on) (t : Timed p lines order begun done) where
@@ -57,3 +75,121 @@ roomy-for h r =
 
 pub written-as : {x y : Columns} {a₀ m₀ s₀ e₀ u₀ a m s e u : List ℕ} → x ≡ y → Written x a₀ m₀ s₀ e₀ u₀ a m s e u → Written y a₀ m₀ s₀ e₀ u₀ a m s e u
 written-as {x} {y} {a₀} {m₀} {s₀} {e₀} {u₀} {a} {m} {s} {e} {u} q w = subst (λ (c : Columns). Written c a₀ m₀ s₀ e₀ u₀ a m s e u) q w
+
+-- ---- number 8, and else a sheet
+
+module _ (p : Problem) (lines : Lines) where
+  pub eight-answer : (b : Bool) → b ≡ true → Refused 8 0 ≡ answerOf (eightIf b p lines)
+  eight-answer true e = refl
+  eight-answer false e = absurd (false-is-not-true e)
+
+  pub eight-leaves : (b : Bool) → b ≡ true → {a₀ m₀ s₀ e₀ u₀ : List ℕ} → Leaves (eightIf b p lines) a₀ m₀ s₀ e₀ u₀ a₀ m₀ s₀ e₀ u₀
+  eight-leaves true e = record { activities = refl; machines = refl; starts = refl; ends = refl; setups = refl }
+  eight-leaves false e = absurd (false-is-not-true e)
+
+  pub sheet-answer : (b : Bool) → b ≡ false → {n : ℕ} {f : Float} → n ≡ p .n → f ≡ fitnessOn p lines → Rows n f ≡ answerOf (eightIf b p lines)
+  sheet-answer true e q r = absurd (false-is-not-true (sym e))
+  sheet-answer false e q r = ap₂ Rows q r
+
+  pub sheet-leaves : (b : Bool) → b ≡ false → {a₀ m₀ s₀ e₀ u₀ a m s e u : List ℕ} → Written (sheetOf p lines) a₀ m₀ s₀ e₀ u₀ a m s e u → Leaves (eightIf b p lines) a₀ m₀ s₀ e₀ u₀ a m s e u
+  sheet-leaves true e w = absurd (false-is-not-true (sym e))
+  sheet-leaves false e w = record { activities = w .activities; machines = w .machines; starts = w .starts; ends = w .ends; setups = w .setups }
+
+pub not-not : (b : Bool) {r : Bool} → r ≡ not b → r ≡ true → b ≡ false
+not-not true e q = absurd (false-is-not-true (sym e ∙ q))
+not-not false e q = refl
+
+pub not-false : (b : Bool) {r : Bool} → r ≡ not b → r ≡ false → b ≡ true
+not-false true e q = refl
+not-false false e q = absurd (false-is-not-true (sym q ∙ e))
+
+-- ---- fitness
+
+pub ended : (p : Problem) (g : Genes) (ok : Accepted p g) (lines : Lines) (w : WellFormed (p .n) (p .machines) lines) {order begun done : List ℕ}
+    → Timed p lines order begun done → Ended (p .n) done
+ended p g ok lines w {order} {begun} {done} t =
+    record {
+      each = omega (arith, ap length (t .placement .done), length-each (λ a. startOf p lines a + spanAt p lines a) (p .n) 0);
+      bounded = λ a h. omega (arith, ap (λ (l : List ℕ). getD l a 0) (t .placement .done), ends-most p g ok lines w (ap length (sym (t .whole .is)) ∙ t .whole .all) a h);
+    }
+
+pub fitness-is : (p : Problem) (lines : Lines) {order begun done : List ℕ} → Timed p lines order begun done → fitnessOf p (λ a. getD done a 0) ≡ fitnessOn p lines
+fitness-is p lines t = ap (λ (l : List ℕ). fitnessOf p (λ a. getD l a 0)) (t .placement .done)
+
+-- What the test of a negation says.
+pub denied : (r : Bool) → not r ≡ true → r ≡ false
+denied true e = absurd (false-is-not-true e)
+denied false e = refl
+
+pub granted : (r : Bool) → not r ≡ false → r ≡ true
+granted true e = refl
+granted false e = absurd (false-is-not-true (sym e))
+
+-- ---- number 7
+
+module _ (p : Problem) (lines : Lines) where
+  pub seven-answer : (b : Bool) → b ≡ false → Refused 7 0 ≡ answerOf (sevenUnless b p lines)
+  seven-answer true e = absurd (false-is-not-true (sym e))
+  seven-answer false e = refl
+
+  pub seven-leaves : (b : Bool) → b ≡ false → {a₀ m₀ s₀ e₀ u₀ : List ℕ} → Leaves (sevenUnless b p lines) a₀ m₀ s₀ e₀ u₀ a₀ m₀ s₀ e₀ u₀
+  seven-leaves true e = absurd (false-is-not-true (sym e))
+  seven-leaves false e = record { activities = refl; machines = refl; starts = refl; ends = refl; setups = refl }
+
+  pub timed-on : (b : Bool) → b ≡ true → eightIf (contradicts p lines) p lines ≡ sevenUnless b p lines
+  timed-on true e = refl
+  timed-on false e = absurd (false-is-not-true e)
+
+pub leaves-as : {x y : Outcome} {a₀ m₀ s₀ e₀ u₀ a m s e u : List ℕ} → x ≡ y → Leaves x a₀ m₀ s₀ e₀ u₀ a m s e u → Leaves y a₀ m₀ s₀ e₀ u₀ a m s e u
+leaves-as {x} {y} {a₀} {m₀} {s₀} {e₀} {u₀} {a} {m} {s} {e} {u} q w = subst (λ (o : Outcome). Leaves o a₀ m₀ s₀ e₀ u₀ a m s e u) q w
+
+-- ---- number 6
+
+module _ (o : Outcome) where
+  pub six-answer : (b : Bool) → b ≡ false → Refused 6 0 ≡ answerOf (sixUnless b o)
+  six-answer true e = absurd (false-is-not-true (sym e))
+  six-answer false e = refl
+
+  pub six-leaves : (b : Bool) → b ≡ false → {a₀ m₀ s₀ e₀ u₀ : List ℕ} → Leaves (sixUnless b o) a₀ m₀ s₀ e₀ u₀ a₀ m₀ s₀ e₀ u₀
+  six-leaves true e = absurd (false-is-not-true (sym e))
+  six-leaves false e = record { activities = refl; machines = refl; starts = refl; ends = refl; setups = refl }
+
+  pub roomy-on : (b : Bool) → b ≡ true → o ≡ sixUnless b o
+  roomy-on true e = refl
+  roomy-on false e = absurd (false-is-not-true e)
+
+both : (b c : Bool) → (b && c) ≡ true → (b ≡ true) × (c ≡ true)
+both true c e = (refl, e)
+both false c e = absurd (false-is-not-true e)
+
+pub roomy-means : (cells a m s e u : List ℕ) → (leb 2048 (length cells) && roomy a m s e u) ≡ true → (2048 ≤ length cells) × Roomy 128 a m s e u
+roomy-means cells a m s e u q =
+    let c = both (leb 2048 (length cells)) (roomy a m s e u) q in
+    let ka = both (leb 128 (length a)) (leb 128 (length m) && (leb 128 (length s) && (leb 128 (length e) && leb 128 (length u)))) (c .1) in
+    let km = both (leb 128 (length m)) (leb 128 (length s) && (leb 128 (length e) && leb 128 (length u))) (ka .1) in
+    let ks = both (leb 128 (length s)) (leb 128 (length e) && leb 128 (length u)) (km .1) in
+    let ke = both (leb 128 (length e)) (leb 128 (length u)) (ks .1) in (
+      leb-true 2048 (length cells) (c .0),
+      record {
+        activities = leb-true 128 (length a) (ka .0);
+        machines = leb-true 128 (length m) (km .0);
+        starts = leb-true 128 (length s) (ks .0);
+        ends = leb-true 128 (length e) (ke .0);
+        setups = leb-true 128 (length u) (ke .1);
+      },
+    )
+
+-- ---- numbers 1 to 5, and else the plan is taken in
+
+module _ (s : List ℕ) (lines : Lines) {r : Reading} (e : r ≡ takenIn s) where
+  pub not-taken : {number place : ℕ} → r .answer ≡ No number place → no number place ≡ timedPlan s lines
+  not-taken {number} {place} a = ap (λ (x : Answer). timedIf x s (takenIn s) lines) (sym a ∙ ap (λ (x : Reading). x .answer) e)
+
+  pub taken : r .answer ≡ Read → timedLines (problemIn s r) lines ≡ timedPlan s lines
+  taken a = ap (λ (x : Reading). timedLines (problemIn s x) lines) e ∙ ap (λ (x : Answer). timedIf x s (takenIn s) lines) (sym a ∙ ap (λ (x : Reading). x .answer) e)
+
+  pub taken-asks : {z : Layout} {table : List ℕ} → z ≡ layoutOf r → r .answer ≡ Read → Tabled (problemIn s r) table → Taken s z table
+  taken-asks {z} {table} q a t =
+      let sound = taken-in-means s r e a in
+      subst (λ (x : Layout). Taken s x table) (sym q)
+      (record { placed = sound .placed; accepted = sound .accepted; weighed = sound .weighed; tabled = t })

@@ -107,12 +107,38 @@ fn time_in(
 {
     let ways = plan::transports(s, z);
     if !timing::time_sequences(
-        s, z, table, ways, cells, lens, before, after, on, places, order, begun, done,
+        s,
+        z,
+        table,
+        ways,
+        cells,
+        lens,
+        before,
+        after,
+        on,
+        places,
+        order,
+        begun,
+        done,
     ) {
         return Answer::Refused(8, 0);
     }
     write_sheet(
-        s, z, table, cells, lens, before, on, order, begun, done, activities, machines, starts, ends, setups,
+        s,
+        z,
+        table,
+        cells,
+        lens,
+        before,
+        on,
+        order,
+        begun,
+        done,
+        activities,
+        machines,
+        starts,
+        ends,
+        setups,
     );
     let n = z.activities;
     Answer::Rows(n, fitness::fitness_of(s, z, done))
@@ -188,7 +214,16 @@ fn time_known(
         return Answer::Refused(7, 0);
     }
     time_lines(
-        s, z, table, cells, lens, activities, machines, starts, ends, setups,
+        s,
+        z,
+        table,
+        cells,
+        lens,
+        activities,
+        machines,
+        starts,
+        ends,
+        setups,
     )
 }
 

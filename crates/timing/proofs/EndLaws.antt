@@ -27,9 +27,9 @@ use Rattle.bounds.specs.Bounds.{categoryBefore, setupOf, spanOf}
 use Rattle.lines.specs.Lines.{Lines, WellFormed, linePred, machineOf}
 use Rattle.lines.proofs.LineLaws.{machine-below}
 use Rattle.lines.proofs.LineLaws.{pred-below as line-pred-below}
-use Rattle.intake.proofs.BareShop.{pred-below}
+use Rattle.intake.proofs.BareShop.{pred-below, each-at}
 use Rattle.graph.proofs.CountingLaws.{below-of, below-at}
-use Rattle.timing.specs.Timing.{setupAt, spanAt, wayTo, waitsFor, countsFor, timingOrder, startBy, startsOf, startOf}
+use Rattle.timing.specs.Timing.{setupAt, spanAt, wayTo, waitsFor, countsFor, timingOrder, startBy, startsOf, startOf, endsOf}
 use Rattle.timing.proofs.LinesShop.{shop, counted}
 use Rattle.timing.proofs.TurnLaws.{waited-for, next-or-before}
 
@@ -117,3 +117,11 @@ module _ (p : Problem) (g : Genes) (ok : Accepted p g) where
         (λ s. end-at i a (omega arith) s (subst (λ (x : ℕ). x < p .n) s (known-at i (omega arith))) (end-within i (omega arith)))
         (λ b ne. omega (arith, end-within i (omega arith) a b)))
         (le-of-eq (sym e))
+
+    -- Every end, at or below document 01's largest.
+    pub ends-most : (a : ℕ) → a < p .n → getD (endsOf p lines) a 0 ≤ 1_101_659_110_911
+    ends-most a h =
+        let z : 0 + a ≡ a = omega arith in
+        let is = each-at (λ b. startOf p lines b + spanAt p lines b) (p .n) 0 a h ∙ ap (λ (b : ℕ). startOf p lines b + spanAt p lines b) z in
+        let within = end-within (length (timingOrder p lines)) (omega arith) a (rw (take-all (length (timingOrder p lines)) (timingOrder p lines) (omega arith)) (all-in a h)) in
+        omega (arith, is, within, full, ok .activities .1)
