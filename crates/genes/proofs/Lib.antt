@@ -5,3 +5,4 @@ pub mod OrderLaws
 pub mod MachineLaws
 pub mod LinesLaws
 pub mod Worked
+pub mod LotLaws

@@ -1,2 +1,3 @@
 pub mod Indexed
 pub mod Held
+pub mod Lot

@@ -9,6 +9,7 @@ ghost use Rattle.plan.specs.Accepted.{Accepted};
 ghost use Rattle.genes.specs.Indexed.{indexed, assignedTo, allAssigned};
 ghost use Rattle.genes.specs.Held.{filledTo, Listed, taskNamed};
 use plan::Layout;
+ghost use Rattle.genes.specs.Lot.{Lines};
 use plan::Machine;
 
 // A word of the Order: a task, or a number that no task has.
@@ -92,4 +93,36 @@ pub fn fill_machines(s: &[u8], z: Layout, machines: &mut [usize]) -> bool
         machines[i] = m;
     }
     all
+}
+
+// Whether the genes give lines of all activities; if so, how many activities stand on each machine.
+pub struct Lot {
+    pub whole: bool,
+    pub lens: [usize; 16],
+}
+
+// Deals the lines that the genes give. Where an activity has no machine, or the order names too few, there are none, and the cells are
+// left as they are.
+pub fn deal_lines(s: &[u8], z: Layout, cells: &mut [usize]) -> Lot
+    requires { ⌜ Placed z × Accepted (problemOf (words (now s)) z) (genesOf (words (now s)) z) × (length (now cells) ≡ 2048) ⌝ }
+    ensures { λ r. ⌜ Lines (problemOf (words (now (s .entry))) z) (genesOf (words (now (s .entry))) z) (now (cells .exit)) r ⌝ }
+{
+    let mut on = [0usize; 128];
+    let mut listed = [0usize; 128];
+    let all = fill_machines(s, z, &mut on);
+    let count = indexed(s, z, &mut listed);
+    if !all {
+        return Lot {
+            whole: false,
+            lens: [0; 16],
+        };
+    }
+    if count < z.activities {
+        return Lot {
+            whole: false,
+            lens: [0; 16],
+        };
+    }
+    let lens = lines::deal(&listed[..count], &on, cells);
+    Lot { whole: true, lens }
 }
