@@ -4,7 +4,7 @@ use mathlib.Core.Path.{_≡_, refl, sym, ap, ap₂, _∙_, subst}
 use mathlib.Core.Bool.{Bool, true, false, not, _&&_}
 use mathlib.Core.List.{List}
 use native.Mathlib.Omega.{arith}
-use lib.ListN.{length, getD, take}
+use lib.ListN.{length, getD, take, replicate}
 use lib.Seq.{ext-getD}
 use Rattle.graph.specs.Counting.{Below}
 use Rattle.graph.proofs.Theorem.{order-below}
@@ -23,7 +23,7 @@ use Rattle.timing.proofs.TimedLaws.{false-is-not-true}
 use Rattle.rows.specs.Rows.{Columns, columnsOf, Roomy, Written}
 use Rattle.fitness.specs.Fitness.{fitnessOf}
 use Rattle.fitness.specs.Ended.{Ended}
-use lib.Ieee.{Float}
+use lib.Ieee.{Float, toBits, binary64}
 use lib.Dec.{leb}
 use borrow.Author.Tests.{leb-true}
 use Rattle.reader.specs.declared.Reading.{Reading}
@@ -32,12 +32,13 @@ use Rattle.reader.specs.declared.Answer.the-variants.{Accepted as Read, No}
 use Rattle.plan.specs.Found.{layoutOf}
 use Rattle.plan.specs.declared.Layout.{Layout}
 use Rattle.tables.specs.Tabled.{Tabled}
-use Rattle.intake.specs.Intake.{problemIn, takenIn}
+use Rattle.intake.specs.Intake.{problemIn, genesIn, takenIn}
+use Rattle.genes.specs.Indexed.{linesOfGenes}
 use Rattle.intake.proofs.Soundness.{taken-in-means}
 use Rattle.calls.specs.Asked.{Taken}
 use Rattle.calls.specs.declared.Answer.the-variants.{Refused, Rows}
 use Rattle.calls.specs.Outcome.{Outcome, no, answerOf, Leaves}
-use Rattle.calls.specs.Timing.{sheetOf, fitnessOn, eightIf, sevenUnless, timedLines, timedIf, timedPlan, sixUnless, roomy}
+use Rattle.calls.specs.Timing.{sheetOf, fitnessOn, eightIf, sevenUnless, timedLines, timedIf, timedPlan, sevenIf, timedGenes, orderedIf, orderedPlan, sixUnless, roomy}
 
 module _ (p : Problem) (g : Genes) (ok : Accepted p g) (lines : Lines) (w : WellFormed (p .n) (p .machines) lines) {before on order begun done : List ℕ}
     (s : Seated (p .n) lines before on) (t : Timed p lines order begun done) where
@@ -87,7 +88,7 @@ module _ (p : Problem) (lines : Lines) where
   eight-leaves true e = record { activities = refl; machines = refl; starts = refl; ends = refl; setups = refl }
   eight-leaves false e = absurd (false-is-not-true e)
 
-  pub sheet-answer : (b : Bool) → b ≡ false → {n : ℕ} {f : Float} → n ≡ p .n → f ≡ fitnessOn p lines → Rows n f ≡ answerOf (eightIf b p lines)
+  pub sheet-answer : (b : Bool) → b ≡ false → {n f : ℕ} → n ≡ p .n → f ≡ toBits binary64 (fitnessOn p lines) → Rows n f ≡ answerOf (eightIf b p lines)
   sheet-answer true e q r = absurd (false-is-not-true (sym e))
   sheet-answer false e q r = ap₂ Rows q r
 
@@ -193,3 +194,28 @@ module _ (s : List ℕ) (lines : Lines) {r : Reading} (e : r ≡ takenIn s) wher
       let sound = taken-in-means s r e a in
       subst (λ (x : Layout). Taken s x table) (sym q)
       (record { placed = sound .placed; accepted = sound .accepted; weighed = sound .weighed; tabled = t })
+
+-- ---- the plan's own lines
+
+module _ (p : Problem) (g : Genes) where
+  pub missed-answer : (b : Bool) → b ≡ true → Refused 7 0 ≡ answerOf (sevenIf b p g)
+  missed-answer true e = refl
+  missed-answer false e = absurd (false-is-not-true e)
+
+  pub missed-leaves : (b : Bool) → b ≡ true → {a₀ m₀ s₀ e₀ u₀ : List ℕ} → Leaves (sevenIf b p g) a₀ m₀ s₀ e₀ u₀ a₀ m₀ s₀ e₀ u₀
+  missed-leaves true e = record { activities = refl; machines = refl; starts = refl; ends = refl; setups = refl }
+  missed-leaves false e = absurd (false-is-not-true e)
+
+  pub dealt-on : (b : Bool) → b ≡ false → {lines : Lines} → lines ≡ linesOfGenes p g → eightIf (contradicts p lines) p lines ≡ sevenIf b p g
+  dealt-on true e q = absurd (false-is-not-true (sym e))
+  dealt-on false e q = ap (λ (l : Lines). eightIf (contradicts p l) p l) q
+
+module _ (s : List ℕ) {r : Reading} (e : r ≡ takenIn s) where
+  pub not-ordered : {number place : ℕ} → r .answer ≡ No number place → no number place ≡ orderedPlan s
+  not-ordered {number} {place} a = ap (λ (x : Answer). orderedIf x s (takenIn s)) (sym a ∙ ap (λ (x : Reading). x .answer) e)
+
+  pub ordered : r .answer ≡ Read → timedGenes (problemIn s r) (genesIn s r) ≡ orderedPlan s
+  ordered a = ap (λ (x : Reading). timedGenes (problemIn s x) (genesIn s x)) e ∙ ap (λ (x : Answer). orderedIf x s (takenIn s)) (sym a ∙ ap (λ (x : Reading). x .answer) e)
+
+pub rows-room : (a m s e u : List ℕ) → roomy a m s e u ≡ true → Roomy 128 a m s e u
+rows-room a m s e u q = roomy-means (replicate 2048 0) a m s e u q .1

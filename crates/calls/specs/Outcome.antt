@@ -2,8 +2,8 @@
 -- leaves in each lent buffer.
 use Prim.Native.Nat.{ℕ}
 use mathlib.Core.Path.{_≡_}
-use mathlib.Core.List.{List}
-use lib.Ieee.{Float}
+use mathlib.Core.List.{List, [], _∷_}
+use lib.Ieee.{Float, toBits, binary64}
 use Rattle.rows.specs.Rows.{Columns, over}
 use Rattle.calls.specs.declared.Answer.{Answer}
 use Rattle.calls.specs.declared.Answer.the-variants.{Refused, Rows}
@@ -15,7 +15,7 @@ pub data Outcome : Type 0 where
 
 abbrev pub answerOf : Outcome → Answer
 answerOf (no number place) = Refused number place
-answerOf (sheet rows columns fitness) = Rows rows fitness
+answerOf (sheet rows columns fitness) = Rows rows (toBits binary64 fitness)
 
 -- A refusal leaves a buffer as it was; a sheet has its column over the first cells, and the later ones stay.
 abbrev pub left : (Columns → List ℕ) → Outcome → (cells : List ℕ) → List ℕ
@@ -28,3 +28,8 @@ pub record Leaves (o : Outcome) (a₀ m₀ s₀ e₀ u₀ a m s e u : List ℕ) 
   pub starts : s ≡ left (λ c. c .starts) o s₀
   pub ends : e ≡ left (λ c. c .ends) o e₀
   pub setups : u ≡ left (λ c. c .setups) o u₀
+
+-- The answer as three numbers, for callers in C: the number and the place of a refusal, and no fitness; or no refusal, and the fitness' bits.
+abbrev pub codeOf : Answer → List ℕ
+codeOf (Refused number place) = number ∷ place ∷ 0 ∷ []
+codeOf (Rows rows bits) = 0 ∷ 0 ∷ bits ∷ []

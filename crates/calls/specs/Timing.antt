@@ -10,8 +10,9 @@ use lib.ListN.{length, getD, take}
 use Rattle.reader.specs.declared.Reading.{Reading}
 use Rattle.reader.specs.declared.Answer.{Answer}
 use Rattle.reader.specs.declared.Answer.the-variants.{Accepted, No}
-use Rattle.plan.specs.Problem.{Problem}
-use Rattle.intake.specs.Intake.{problemIn, takenIn}
+use Rattle.plan.specs.Problem.{Problem, Genes}
+use Rattle.genes.specs.Indexed.{misses, linesOfGenes}
+use Rattle.intake.specs.Intake.{problemIn, genesIn, takenIn}
 use Rattle.lines.specs.Lines.{Lines, linesIn, wellFormed, machineOf}
 use Rattle.intake.specs.Circle.{each}
 use Rattle.timing.specs.Timing.{timingOrder, contradicts, startsOf, endsOf, setupsOf}
@@ -45,6 +46,21 @@ timedIf (No number place) s r lines = no number place
 abbrev pub timedPlan : (bytes : List ℕ) → Lines → Outcome
 timedPlan s lines = timedIf (takenIn s .answer) s (takenIn s) lines
 
+-- A plan and the lines that its own genes give; 7 where they miss an activity.
+abbrev pub sevenIf : Bool → Problem → Genes → Outcome
+sevenIf true p g = no 7 0
+sevenIf false p g = eightIf (contradicts p (linesOfGenes p g)) p (linesOfGenes p g)
+
+abbrev pub timedGenes : Problem → Genes → Outcome
+timedGenes p g = sevenIf (misses p g) p g
+
+abbrev pub orderedIf : Answer → List ℕ → Reading → Outcome
+orderedIf Accepted s r = timedGenes (problemIn s r) (genesIn s r)
+orderedIf (No number place) s r = no number place
+
+abbrev pub orderedPlan : (bytes : List ℕ) → Outcome
+orderedPlan s = orderedIf (takenIn s .answer) s (takenIn s)
+
 -- Number 6: 2,048 cells for lines, 128 places for each result.
 abbrev pub sixUnless : Bool → Outcome → Outcome
 sixUnless true o = o
@@ -55,3 +71,6 @@ roomy a m s e u = leb 128 (length a) && (leb 128 (length m) && (leb 128 (length 
 
 abbrev pub timed : (bytes cells lens : List ℕ) → (a m s e u : List ℕ) → Outcome
 timed bytes cells lens a m s e u = sixUnless (leb 2048 (length cells) && roomy a m s e u) (timedPlan bytes (linesIn (take 2048 cells) lens))
+
+abbrev pub timedOrder : (bytes : List ℕ) → (a m s e u : List ℕ) → Outcome
+timedOrder bytes a m s e u = sixUnless (roomy a m s e u) (orderedPlan bytes)

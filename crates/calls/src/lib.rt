@@ -1,10 +1,12 @@
 // The public calls. Each tests its own input and asks nothing of its caller.
+mod exports;
 mod timed;
 
 pub use timed::time;
+pub use timed::time_order;
 
-// A refusal's number and place, or how many rows were written and their fitness.
+// A refusal's number and place, or how many rows were written and the bits of their fitness.
 pub enum Answer {
     Refused(u32, usize),
-    Rows(usize, f64),
+    Rows(usize, u64),
 }

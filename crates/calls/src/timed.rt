@@ -6,22 +6,19 @@ ghost use mathlib.Core.Bool.{_&&_};
 ghost use lib.Dec.{leb};
 ghost use lib.ListN.{length, take};
 ghost use Rattle.words.specs.Words.{words};
-ghost use Rattle.plan.specs.Input.{problemOf};
+ghost use Rattle.plan.specs.Input.{problemOf, genesOf};
 ghost use Rattle.lines.specs.Lines.{linesIn, WellFormed};
 ghost use Rattle.timing.specs.Timing.{contradicts};
 ghost use Rattle.timing.specs.Placing.{Seated, Timed, Rooms};
 ghost use Rattle.rows.specs.Rows.{Roomy, Written};
 ghost use Rattle.calls.specs.Outcome.{answerOf, Leaves};
-ghost use Rattle.calls.specs.Timing.{sheetOf, eightIf, timedLines, timed, roomy};
+ghost use Rattle.calls.specs.Timing.{sheetOf, eightIf, timedLines, timedGenes, timed, timedOrder, roomy};
 ghost use Rattle.calls.specs.Asked.{Taken};
 
-// Whether the lines have 2,048 cells and each result 128 places.
-fn is_roomy(cells: &[usize], a: &[usize], m: &[usize], s: &[u64], e: &[u64], u: &[u64]) -> bool
-    ensures { λ r. ⌜ r ≡ (leb 2048 (length (now (cells .entry))) && roomy (now (a .entry)) (now (m .entry)) (now (s .entry)) (now (e .entry)) (now (u .entry))) ⌝ }
+// Whether each result has 128 places.
+fn rows_fit(a: &[usize], m: &[usize], s: &[u64], e: &[u64], u: &[u64]) -> bool
+    ensures { λ r. ⌜ r ≡ roomy (now (a .entry)) (now (m .entry)) (now (s .entry)) (now (e .entry)) (now (u .entry)) ⌝ }
 {
-    if cells.len() < 2048 {
-        return false;
-    }
     if a.len() < 128 {
         return false;
     }
@@ -38,6 +35,16 @@ fn is_roomy(cells: &[usize], a: &[usize], m: &[usize], s: &[u64], e: &[u64], u: 
         return false;
     }
     true
+}
+
+// Whether the lines have 2,048 cells, too.
+fn is_roomy(cells: &[usize], a: &[usize], m: &[usize], s: &[u64], e: &[u64], u: &[u64]) -> bool
+    ensures { λ r. ⌜ r ≡ (leb 2048 (length (now (cells .entry))) && roomy (now (a .entry)) (now (m .entry)) (now (s .entry)) (now (e .entry)) (now (u .entry))) ⌝ }
+{
+    if cells.len() < 2048 {
+        return false;
+    }
+    rows_fit(a, m, s, e, u)
 }
 
 // Writes the rows of timed lines.
@@ -141,7 +148,7 @@ fn time_in(
         setups,
     );
     let n = z.activities;
-    Answer::Rows(n, fitness::fitness_of(s, z, done))
+    Answer::Rows(n, fitness::fitness_bits(s, z, done))
 }
 
 // The same with work space of its own.
@@ -264,4 +271,64 @@ pub fn time(
         ends,
         setups,
     )
+}
+
+// Number 7 where the genes miss an activity, else their lines timed.
+fn time_genes(
+    s: &[u8],
+    z: Layout,
+    table: &[usize],
+    activities: &mut [usize],
+    machines: &mut [usize],
+    starts: &mut [u64],
+    ends: &mut [u64],
+    setups: &mut [u64],
+) -> Answer
+    requires { ⌜ Taken (now s) z (now table) × Roomy 128 (now activities) (now machines) (now starts) (now ends) (now setups) ⌝ }
+    ensures answer { λ r. ⌜ r ≡ answerOf (timedGenes (problemOf (words (now (s .entry))) z) (genesOf (words (now (s .entry))) z)) ⌝ }
+    ensures rows { λ _. ⌜ Leaves (timedGenes (problemOf (words (now (s .entry))) z) (genesOf (words (now (s .entry))) z)) (now (activities .entry)) (now (machines .entry)) (now (starts .entry)) (now (ends .entry)) (now (setups .entry)) (now (activities .exit)) (now (machines .exit)) (now (starts .exit)) (now (ends .exit)) (now (setups .exit)) ⌝ }
+{
+    let mut cells = [0usize; 2048];
+    let lot = genes::deal_lines(s, z, &mut cells);
+    if !lot.whole {
+        return Answer::Refused(7, 0);
+    }
+    let lens = lot.lens;
+    time_lines(
+        s,
+        z,
+        table,
+        &cells,
+        lens,
+        activities,
+        machines,
+        starts,
+        ends,
+        setups,
+    )
+}
+
+// Times the lines that a plan's own Order and Assignment give.
+pub fn time_order(
+    s: &[u8],
+    activities: &mut [usize],
+    machines: &mut [usize],
+    starts: &mut [u64],
+    ends: &mut [u64],
+    setups: &mut [u64],
+) -> Answer
+    ensures answer { λ r. ⌜ r ≡ answerOf (timedOrder (now (s .entry)) (now (activities .entry)) (now (machines .entry)) (now (starts .entry)) (now (ends .entry)) (now (setups .entry))) ⌝ }
+    ensures rows { λ _. ⌜ Leaves (timedOrder (now (s .entry)) (now (activities .entry)) (now (machines .entry)) (now (starts .entry)) (now (ends .entry)) (now (setups .entry))) (now (activities .entry)) (now (machines .entry)) (now (starts .entry)) (now (ends .entry)) (now (setups .entry)) (now (activities .exit)) (now (machines .exit)) (now (starts .exit)) (now (ends .exit)) (now (setups .exit)) ⌝ }
+{
+    if !rows_fit(activities, machines, starts, ends, setups) {
+        return Answer::Refused(6, 0);
+    }
+    let mut table = intake::table_room();
+    let r = intake::take_in(s, &mut table);
+    let answer = r.answer;
+    if let reader::Answer::No(number, place) = answer {
+        return Answer::Refused(number, place);
+    }
+    let z = plan::layout_of(r);
+    time_genes(s, z, &table, activities, machines, starts, ends, setups)
 }

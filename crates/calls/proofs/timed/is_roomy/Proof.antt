@@ -1,4 +1,9 @@
+use mathlib.Core.Path.{_≡_, sym, ap, _∙_}
+use mathlib.Core.Bool.{Bool, _&&_}
 use borrow.Author.Tests.{le-leb, lt-leb}
+use denote.Ref.{now}
+use lib.ListN.{length}
+use Rattle.calls.specs.Timing.{roomy}
 use borrow.Author.Needs.{needs}
 use Rattle.calls.proofs.timed.is_roomy.Statement.{statement}
 use Rattle.calls.proofs.timed.is_roomy.Tie as tie
@@ -6,24 +11,12 @@ use Rattle.calls.proofs.timed.is_roomy.Tie as tie
 returns : tie.Need-returns
 returns c = simp (lt-leb _ _ (c .if1 .taken))
 
+rows-fit-requires : tie.Need-rows-fit-requires
+rows-fit-requires c κs = search needs
+
 returns-2 : tie.Need-returns-2
-returns-2 c = simp (le-leb _ _ (c .before .if1 .left), lt-leb _ _ (c .if2 .taken))
-
-returns-3 : tie.Need-returns-3
-returns-3 c = simp (le-leb _ _ (c .before .before .if1 .left), le-leb _ _ (c .before .if2 .left), lt-leb _ _ (c .if3 .taken))
-
-returns-4 : tie.Need-returns-4
-returns-4 c = simp (le-leb _ _ (c .before .before .before .if1 .left), le-leb _ _ (c .before .before .if2 .left), le-leb _ _ (c .before .if3 .left), lt-leb _ _ (c .if4 .taken))
-
-returns-5 : tie.Need-returns-5
-returns-5 c = simp (le-leb _ _ (c .before .before .before .before .if1 .left), le-leb _ _ (c .before .before .before .if2 .left), le-leb _ _ (c .before .before .if3 .left), le-leb _ _ (c .before .if4 .left), lt-leb _ _ (c .if5 .taken))
-
-returns-6 : tie.Need-returns-6
-returns-6 c = simp (le-leb _ _ (c .before .before .before .before .before .if1 .left), le-leb _ _ (c .before .before .before .before .if2 .left), le-leb _ _ (c .before .before .before .if3 .left), le-leb _ _ (c .before .before .if4 .left), le-leb _ _ (c .before .if5 .left), lt-leb _ _ (c .if6 .taken))
-
-returns-7 : tie.Need-returns-7
-returns-7 c = simp (le-leb _ _ (c .before .before .before .before .before .if1 .left), le-leb _ _ (c .before .before .before .before .if2 .left), le-leb _ _ (c .before .before .before .if3 .left), le-leb _ _ (c .before .before .if4 .left), le-leb _ _ (c .before .if5 .left), le-leb _ _ (c .if6 .left))
+returns-2 c =
+    c .rows-fit .ensures ∙ sym (ap (λ (b : Bool). b && roomy (now (c .before .before .before .before .before .before .before .before .args .a)) (now (c .before .before .before .before .before .before .before .before .args .m)) (now (c .before .before .before .before .before .before .before .before .args .s)) (now (c .before .before .before .before .before .before .before .before .args .e)) (now (c .before .before .before .before .before .before .before .before .args .u))) (le-leb 2048 (length (now (c .before .before .before .before .before .before .before .before .args .cells))) (c .before .if1 .left)))
 
 pub is-roomy-spec : {M : Type 1} → statement M
-is-roomy-spec =
-    tie.close (tie.spec returns returns-2 returns-3 returns-4 returns-5 returns-6 returns-7)
+is-roomy-spec = tie.close (tie.spec returns rows-fit-requires returns-2)
