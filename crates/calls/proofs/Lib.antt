@@ -1,2 +1,3 @@
 pub mod PrefixLaws
 pub mod SheetLaws
+pub mod AgainLaws

@@ -1,6 +1,6 @@
 -- Document 01, "Numbers on the screen" and "Timing and fitness", for lines that the caller gives: number 6 for a buffer that is too short, then
 -- what the plan is refused for, then 7 and 8; else the rows in timing order and their fitness.
-use Prim.Native.Nat.{ℕ, _≤_}
+use Prim.Native.Nat.{ℕ, zero, suc, _≤_}
 use mathlib.Core.Path.{_≡_}
 use mathlib.Core.Bool.{Bool, true, false, _&&_}
 use mathlib.Core.List.{List, []}
@@ -16,7 +16,7 @@ use Rattle.intake.specs.Intake.{problemIn, genesIn, takenIn}
 use Rattle.lines.specs.Lines.{Lines, linesIn, wellFormed, machineOf}
 use Rattle.intake.specs.Circle.{each}
 use Rattle.timing.specs.Timing.{timingOrder, contradicts, startsOf, endsOf, setupsOf}
-use Rattle.fitness.specs.Fitness.{fitnessOf}
+use Rattle.fitness.specs.Fitness.{makespanOf, fitnessOf}
 use Rattle.rows.specs.Rows.{Columns, columnsOf}
 use Rattle.calls.specs.Outcome.{Outcome, no, sheet}
 
@@ -74,3 +74,28 @@ timed bytes cells lens a m s e u = sixUnless (leb 2048 (length cells) && roomy a
 
 abbrev pub timedOrder : (bytes : List ℕ) → (a m s e u : List ℕ) → Outcome
 timedOrder bytes a m s e u = sixUnless (roomy a m s e u) (orderedPlan bytes)
+
+-- Lines timed again and again, for measuring: the makespan of the last time; 0 where there is none.
+abbrev pub makespanOn : Problem → Lines → ℕ
+makespanOn p lines = makespanOf p (λ a. getD (endsOf p lines) a 0)
+
+abbrev pub lastOf : (times : ℕ) → Bool → Problem → Lines → ℕ
+lastOf zero b p lines = 0
+lastOf (suc times) true p lines = 0
+lastOf (suc times) false p lines = makespanOn p lines
+
+abbrev pub againIf : Bool → (times : ℕ) → Problem → Lines → ℕ
+againIf true times p lines = lastOf times (contradicts p lines) p lines
+againIf false times p lines = 0
+
+abbrev pub takenAgain : Answer → (times : ℕ) → List ℕ → Reading → Lines → ℕ
+takenAgain Accepted times s r lines = againIf (wellFormed (problemIn s r .n) (problemIn s r .machines) lines) times (problemIn s r) lines
+takenAgain (No number place) times s r lines = 0
+
+abbrev pub zeroUnless : Bool → ℕ → ℕ
+zeroUnless true x = x
+zeroUnless false x = 0
+
+abbrev pub timedAgain : (bytes cells lens : List ℕ) → (times : ℕ) → ℕ
+timedAgain bytes cells lens times =
+    zeroUnless (leb 2048 (length cells)) (takenAgain (takenIn bytes .answer) times bytes (takenIn bytes) (linesIn (take 2048 cells) lens))

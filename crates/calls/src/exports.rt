@@ -1,10 +1,11 @@
 // The calls for programs in C and Rust: slices cross as pointer and length, and the answer is three numbers.
 use crate::Answer;
+use crate::again::time_again;
 use crate::timed::time;
 use crate::timed::time_order;
 ghost use mathlib.Core.Path.{_≡_};
 ghost use Rattle.calls.specs.Outcome.{answerOf, codeOf, Leaves};
-ghost use Rattle.calls.specs.Timing.{timed, timedOrder};
+ghost use Rattle.calls.specs.Timing.{timed, timedOrder, timedAgain};
 
 // An answer as three numbers.
 fn code_of(a: Answer) -> [u64; 3]
@@ -60,4 +61,17 @@ pub extern "C" fn lavkkesto_time_order(
 {
     let a = time_order(s, activities, machines, starts, ends, setups);
     *code = code_of(a);
+}
+
+#[no_mangle]
+pub extern "C" fn lavkkesto_time_again(
+    s: &[u8],
+    cells: &[usize],
+    lens: &[usize; 16],
+    times: usize,
+) -> u64
+    ensures { λ r. ⌜ r ≡ timedAgain (now (s .entry)) (now (cells .entry)) (now (lens .entry)) times ⌝ }
+{
+    let lengths = *lens;
+    time_again(s, cells, lengths, times)
 }

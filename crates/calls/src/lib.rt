@@ -1,7 +1,9 @@
 // The public calls. Each tests its own input and asks nothing of its caller.
+mod again;
 mod exports;
 mod timed;
 
+pub use again::time_again;
 pub use timed::time;
 pub use timed::time_order;
 
