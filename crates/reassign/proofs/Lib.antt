@@ -1,3 +1,4 @@
 pub mod PositionLaws
 pub mod WayLaws
 pub mod OfferLaws
+pub mod SeenLaws

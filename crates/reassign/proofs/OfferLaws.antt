@@ -12,10 +12,10 @@ use lib.Seq.{drop-cons, drop-length}
 use Rattle.lines.specs.Lines.{linesIn}
 use Rattle.lines.proofs.StretchLaws.{line-in}
 use Rattle.moves.specs.Moves.{lineOf, Holds}
-use Rattle.ranking.specs.Ranking.{ranked, withOne, withAll}
+use Rattle.ranking.specs.Ranking.{bestThree, ranked, withOne, withAll}
 use Rattle.ranking.specs.declared.Rated.{Rated}
 use Rattle.ranking.specs.declared.Three.{Three}
-use Rattle.ranking.proofs.StreamLaws.{with-append}
+use Rattle.ranking.proofs.StreamLaws.{streamed-all, with-append}
 use Rattle.reassign.specs.declared.Spot.{Spot}
 use Rattle.reassign.specs.declared.Leaving.{Leaving}
 use Rattle.reassign.specs.Reassignments.{oneIf, ratedAt, spotOf, gathered}
@@ -69,3 +69,16 @@ module _ {f : ℕ → List Rated} {list : List ℕ} {held : List Rated} {best : 
       let e : i ≡ length list = omega (arith, k .within) in
       let d : drop i list ≡ [] = ap (λ (j : ℕ). drop j list) e ∙ drop-length list in
       rw d at (k .left)
+
+-- ---- all of them, or none
+
+pub all-offered : {choices any : Bool} {kept none : List Rated} (l : List Rated) → choices ≡ any → choices ≡ true → none ≡ [] → kept ≡ withAll none l
+    → kept ≡ cond any (bestThree l) []
+all-offered l e t z k =
+    let q = sym e ∙ t in
+    rw q (k ∙ ap (λ (held : List Rated). withAll held l) z ∙ streamed-all l)
+
+pub no-choice : {choices any : Bool} {none : List Rated} (l : List Rated) → choices ≡ any → choices ≡ false → none ≡ [] → none ≡ cond any (bestThree l) []
+no-choice l e t z =
+    let q = sym e ∙ t in
+    rw q z

@@ -16,7 +16,7 @@ ghost use Rattle.moves.specs.Moves.{lineOf, Holds};
 ghost use Rattle.ranking.specs.Ranking.{ranked, withAll};
 ghost use Rattle.timing.specs.Placing.{Bound};
 ghost use Rattle.path.specs.Placing.{placed};
-ghost use Rattle.reassign.specs.Reassignments.{flexible, headOf, restOf, timeOn, leavingOf, onLine, toMachine, ofActivity, gathered, bestReassignments};
+ghost use Rattle.reassign.specs.Reassignments.{flexible, headOf, restOf, timeOn, leavingOf, onLine, toMachine, ofActivity, gathered, reassignments, bestReassignments};
 ghost use Rattle.reassign.specs.Reassigning.{unordered, Counted, Awaited, Reckoned, Ready, Seen, SomeSeen, Open};
 use moves::Move;
 use plan::Layout;
@@ -225,4 +225,123 @@ fn offer_candidates(
         i += 1;
     }
     best
+}
+
+// Offers all moves of one activity.
+fn offer_activity(
+    s: &[u8],
+    z: Layout,
+    table: &[usize],
+    cells: &[usize],
+    lens: &[usize; 16],
+    machines: &[usize],
+    places: &[usize],
+    starts: &[u64],
+    ends: &[u64],
+    tail: &[u64],
+    a: usize,
+    three: Three,
+) -> Three
+    requires { ⌜ Placed z × Holds (now cells) (now lens) × Open (problemOf (words (now s)) z) (linesIn (now cells) (now lens)) × (a < z .activities) × (three .count ≤ 3) ⌝ }
+    requires { ⌜ Seen (problemOf (words (now s)) z) (linesIn (now cells) (now lens)) (now table) (now machines) (now places) (now starts) (now ends) (now tail) ⌝ }
+    ensures { λ r. ⌜ ranked r ≡ withAll (ranked three) (ofActivity (problemOf (words (now (s .entry))) z) (linesIn (now (cells .entry)) (now (lens .entry))) (unordered (now (starts .entry)) (now (ends .entry))) (now (tail .entry)) a) ⌝ }
+    ensures { λ r. ⌜ r .count ≤ 3 ⌝ }
+{
+    let leaving = leaving_of(table, machines, places, starts, ends, tail, a);
+    let candidates = tables::candidates_of(table, a);
+    offer_candidates(
+        s,
+        z,
+        cells,
+        lens,
+        starts,
+        ends,
+        tail,
+        leaving,
+        candidates,
+        three,
+    )
+}
+
+// Offers all moves of the path's activities.
+fn offer_path(
+    s: &[u8],
+    z: Layout,
+    table: &[usize],
+    cells: &[usize],
+    lens: &[usize; 16],
+    machines: &[usize],
+    places: &[usize],
+    starts: &[u64],
+    ends: &[u64],
+    tail: &[u64],
+    path: &[usize],
+    three: Three,
+) -> Three
+    requires { ⌜ Placed z × Holds (now cells) (now lens) × Open (problemOf (words (now s)) z) (linesIn (now cells) (now lens)) × Below (z .activities) (now path) × (three .count ≤ 3) ⌝ }
+    requires { ⌜ Seen (problemOf (words (now s)) z) (linesIn (now cells) (now lens)) (now table) (now machines) (now places) (now starts) (now ends) (now tail) ⌝ }
+    ensures { λ r. ⌜ ranked r ≡ withAll (ranked three) (reassignments (problemOf (words (now (s .entry))) z) (linesIn (now (cells .entry)) (now (lens .entry))) (unordered (now (starts .entry)) (now (ends .entry))) (now (tail .entry)) (now (path .entry))) ⌝ }
+    ensures { λ r. ⌜ r .count ≤ 3 ⌝ }
+{
+    let mut best = three;
+    let mut i = 0;
+    while i < path.len() {
+        best = offer_activity(
+            s,
+            z,
+            table,
+            cells,
+            lens,
+            machines,
+            places,
+            starts,
+            ends,
+            tail,
+            path[i],
+            best,
+        );
+        i += 1;
+    }
+    best
+}
+
+// The best three moves of the path's activities to other machines. `choices` says whether any activity may run on two machines: without,
+// there is none. `machines` and `places` have where each activity stands in the lines, `tail` the tail behind each.
+pub fn reassignments(
+    choices: bool,
+    s: &[u8],
+    z: Layout,
+    table: &[usize],
+    cells: &[usize],
+    lens: &[usize; 16],
+    machines: &[usize],
+    places: &[usize],
+    starts: &[u64],
+    ends: &[u64],
+    tail: &[u64],
+    path: &[usize],
+) -> Three
+    requires { ⌜ (choices ≡ flexible (problemOf (words (now s)) z)) × Placed z × Holds (now cells) (now lens) × Open (problemOf (words (now s)) z) (linesIn (now cells) (now lens)) × Below (z .activities) (now path) ⌝ }
+    requires { ⌜ Seen (problemOf (words (now s)) z) (linesIn (now cells) (now lens)) (now table) (now machines) (now places) (now starts) (now ends) (now tail) ⌝ }
+    ensures { λ r. ⌜ ((order : List ℕ) → ranked r ≡ bestReassignments (problemOf (words (now (s .entry))) z) (linesIn (now (cells .entry)) (now (lens .entry))) (placed order (now (starts .entry)) (now (ends .entry))) (now (tail .entry)) (now (path .entry))) ⌝ }
+    ensures { λ r. ⌜ r .count ≤ 3 ⌝ }
+{
+    let none = ranking::none();
+    if choices {
+        return offer_path(
+            s,
+            z,
+            table,
+            cells,
+            lens,
+            machines,
+            places,
+            starts,
+            ends,
+            tail,
+            path,
+            none,
+        );
+    }
+    none
 }
