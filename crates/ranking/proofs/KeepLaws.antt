@@ -1,12 +1,12 @@
 -- Where a move goes among three. Assumes nothing.
-use mathlib.Core.Path.{_≡_, refl, sym, ap, _∙_}
-use mathlib.Core.Bool.{Bool, true, false, cond}
-use mathlib.Core.List.{List, [], _∷_}
+use mathlib.Core.Path.{_≡_, refl}
+use mathlib.Core.Bool.{true, false}
+use mathlib.Core.List.{[], _∷_}
 use Prim.Native.Nat.{ℕ, zero, suc, _≤_, _<_, min}
 use native.Mathlib.Omega.{arith}
 use lib.ListN.{take, getD}
 use Rattle.ranking.specs.declared.Rated.{Rated}
-use Rattle.ranking.specs.Ranking.{precedes, insertBy, withOne, goesAt}
+use Rattle.ranking.specs.Ranking.{insertBy, withOne, goesAt}
 
 module _ (x a b c : Rated) where
   pub goes-first : (n : ℕ) → n ≤ 3 → goesAt n 0 x a ≡ true → take (min (suc n) 3) (x ∷ a ∷ b ∷ []) ≡ withOne x (take n (a ∷ b ∷ c ∷ []))

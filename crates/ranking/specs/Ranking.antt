@@ -1,10 +1,9 @@
 -- Document 01, "One search step": of more moves than three keep the three with the smallest rank, ties as given.
-use Prim.Native.Nat.{ℕ, zero, suc}
+use Prim.Native.Nat.{ℕ}
 use mathlib.Core.Bool.{Bool, cond, _&&_, _||_}
 use mathlib.Core.List.{List, [], _∷_}
 use lib.Dec.{eqb, ltb, leb}
 use lib.ListN.{take}
-use Rattle.moves.specs.declared.Move.{Move}
 use Rattle.ranking.specs.declared.Rated.{Rated}
 use Rattle.ranking.specs.declared.Three.{Three}
 

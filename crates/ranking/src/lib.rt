@@ -2,11 +2,10 @@
 // no list of them is held or sorted.
 ghost use mathlib.Core.Path.{_≡_};
 ghost use mathlib.Core.List.{[]};
-ghost use mathlib.Core.Bool.{_||_};
 ghost use Prim.Native.Nat.{_≤_, _<_, min, suc};
 ghost use lib.ListN.{getD};
 ghost use Rattle.ranking.specs.declared.Rated.{Rated};
-ghost use Rattle.ranking.specs.Ranking.{precedes, ranked, withOne, goesAt};
+ghost use Rattle.ranking.specs.Ranking.{ranked, withOne, goesAt};
 use moves::Move;
 
 // A move with its rank: the length of the longest way that it leaves, and the time by which equal lengths go.
@@ -24,6 +23,7 @@ pub struct Three {
     pub third: Rated,
 }
 
+// What stands past the count.
 fn nothing() -> Rated {
     Rated {
         length: 0,

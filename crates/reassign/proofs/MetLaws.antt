@@ -1,7 +1,7 @@
 -- What reassignments ask is so of an accepted problem, its well-formed lines once they are timed, and their tails. Assumes nothing.
-use mathlib.Core.Path.{_≡_, refl, sym, ap, _∙_}
+use mathlib.Core.Path.{_≡_, refl, sym, _∙_}
 use mathlib.Core.List.{List, [], _∷_}
-use Prim.Native.Nat.{ℕ, zero, suc, _+_, _-_, _*_, _≤_, _<_, _^_}
+use Prim.Native.Nat.{ℕ, zero, suc, _≤_, _<_, _^_}
 use native.Mathlib.Omega.{arith}
 use lib.ListN.{length, getD}
 use Rattle.graph.specs.Counting.{Below}
@@ -10,11 +10,11 @@ use Rattle.plan.specs.Accepted.{Accepted}
 use Rattle.tables.specs.Tabled.{Tabled}
 use Rattle.lines.specs.Lines.{Lines, machineOf, positionOf, WellFormed}
 use Rattle.lines.specs.Linking.{AllBelow}
-use Rattle.lines.proofs.LineLaws.{lines-below}
+use Rattle.lines.proofs.LineLaws.{machine-below, lines-below}
 use Rattle.moves.specs.Moves.{lineOf}
 use Rattle.path.specs.Placing.{Placing}
 use Rattle.path.specs.Tails.{tails}
-use Rattle.path.specs.Following.{Addable, Followed}
+use Rattle.path.specs.Following.{Followed}
 use Rattle.path.proofs.BoundLaws.{tails-sized, tails-low}
 use Rattle.reassign.specs.Reassigning.{Reckoned, Counted, Seen, Open}
 
@@ -34,6 +34,7 @@ module _ {p : Problem} {g : Genes} (ok : Accepted p g) {lines : Lines} (w : Well
   accepted-open =
       record {
         candidates = λ a h. below-wider (p .machines) 16 (p .candidates a) (ok .machines .1) (ok .candidates a);
+        standing = λ a h. omega (arith, machine-below w a h, ok .machines .1);
         lined = λ m. line-below (p .n) lines m (lines-below w);
       }
 

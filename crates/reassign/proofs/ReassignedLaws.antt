@@ -1,13 +1,13 @@
 -- Each of the best reassignments moves an activity of the path from where it stands to a position on another machine's line; in
 -- well-formed lines such a move fits. Assumes nothing.
-use mathlib.Core.Path.{_≡_, refl, sym, ap, _∙_, subst}
+use mathlib.Core.Path.{_≡_, refl, sym, subst}
 use mathlib.Core.Bool.{Bool, true, false, cond}
-use mathlib.Core.List.{List, [], _∷_, _++_}
+use mathlib.Core.List.{List, [], _∷_}
 use Prim.Native.Nat.{ℕ, zero, suc, _+_, _-_, _≤_, _<_}
 use native.Mathlib.Omega.{arith}
 use borrow.Author.Tests.{leb-true, eqb-false}
 use lib.Dec.{leb, eqb, ltb}
-use lib.ListN.{length}
+use lib.ListN.{length, getD}
 use Rattle.graph.specs.Counting.{countOf, Below}
 use Rattle.graph.proofs.CountingLaws.{below-of, hit-eq}
 use Rattle.plan.specs.Problem.{Problem}
@@ -17,10 +17,11 @@ use Rattle.moves.specs.Moves.{lineOf, Fits, Within}
 use Rattle.moves.specs.declared.Move.{Move}
 use Rattle.moves.specs.declared.Move.the-variants.{Reassign}
 use Rattle.moves.proofs.StandingLaws.{reassign-fits}
+use Rattle.ranking.specs.Ranking.{ranked}
 use Rattle.ranking.specs.declared.Rated.{Rated}
-use Rattle.ranking.proofs.EveryLaws.{Every, every-append, every-best}
+use Rattle.ranking.specs.declared.Three.{Three}
+use Rattle.ranking.proofs.EveryLaws.{Every, every-append, every-best, every-held}
 use Rattle.path.specs.Placing.{Placing, startAt, endAt}
-use Rattle.reassign.specs.declared.Spot.{Spot}
 use Rattle.reassign.specs.declared.Leaving.{Leaving}
 use Rattle.reassign.specs.Reassignments.{flexible, least, leastOf, spotOf, lengthAt, leavingOf, wayOf, ratedAt, oneIf, onLine, firstPlace, lastPlace, timeOn, toMachine, gathered, ofActivity, reassignments, bestReassignments}
 use Rattle.reassign.proofs.PositionLaws.{leading-few}
@@ -114,3 +115,9 @@ module _ {p : Problem} {lines : Lines} {path : List ℕ} (sixteen : length lines
 
   pub reassigns-within : Within (p .machines) (x .made)
   reassigns-within = subst (λ (m : Move). Within (p .machines) m) (sym (r .made)) new
+
+-- .. of the k-th that `reassignments` answers
+pub held-reassigns : (p : Problem) (lines : Lines) (s : Placing) (tail path : List ℕ) (three : Three) → three .count ≤ 3 → ranked three ≡ bestReassignments p lines s tail path
+    → (k : ℕ) → k < three .count → (other : Rated) → Reassigns p lines path (getD (ranked three) k other)
+held-reassigns p lines s tail path three few e k h other =
+    every-held (Reassigns p lines path) three few (rw e (best-reassign p lines s tail path)) k h other

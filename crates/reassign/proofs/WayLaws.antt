@@ -1,13 +1,10 @@
 -- The longest way through an activity: what is before it, and what is behind it. Assumes nothing.
-use mathlib.Core.Path.{_≡_, refl, sym, ap, _∙_}
-use mathlib.Core.Bool.{Bool, true, false, _||_}
+use mathlib.Core.Path.{_≡_, sym, ap, _∙_}
+use mathlib.Core.Bool.{Bool, true, false}
 use mathlib.Core.List.{List, [], _∷_, _++_}
-use Prim.Native.Nat.{ℕ, zero, suc, _+_, _-_, _≤_, _<_, max}
+use Prim.Native.Nat.{ℕ, zero, suc, _+_, _<_, max}
 use native.Mathlib.Omega.{arith}
 use native.Mathlib.Numerals.{add-one}
-use borrow.Author.Tests.{le-leb, lt-leb}
-use lib.Dec.{leb}
-use lib.ListN.{length, getD}
 use Rattle.graph.specs.Counting.{Below}
 use Rattle.graph.specs.Links.{linked}
 use Rattle.graph.specs.Shop.{greatest}
@@ -50,3 +47,8 @@ module _ (test : ℕ → Bool) where
   pub any-none : (count at : ℕ) → count ≡ 0 → anyFrom test count at ≡ false
   unfolding anyFrom
   any-none count at c = rw c
+
+-- over a list, then over a link
+pub greatest-then : (f : ℕ → ℕ) (l : List ℕ) (link : Link) (m : ℕ) {x y : ℕ} → x ≡ greatest f l m → y ≡ greatest f (linked link) x
+    → y ≡ greatest f (l ++ linked link) m
+greatest-then f l link m ex ey = ey ∙ ap (greatest f (linked link)) ex ∙ sym (greatest-append f l (linked link) m)

@@ -1,10 +1,8 @@
 -- Small cases worked out by the rules themselves. Assumes nothing.
 use mathlib.Core.Path.{_≡_, refl}
-use mathlib.Core.Bool.{true, false}
-use mathlib.Core.List.{List, [], _∷_}
+use mathlib.Core.List.{[], _∷_}
 use Prim.Native.Nat.{ℕ}
 use Rattle.graph.specs.Shop as shop
-use Rattle.lines.specs.Lines.{Lines}
 use Rattle.moves.specs.declared.Move.the-variants.{Reassign}
 use Rattle.path.specs.Placing.{Placing, placed}
 use Rattle.reassign.specs.declared.Leaving.{Leaving}

@@ -1,5 +1,5 @@
 -- What reassignments are worked out from.
-use Prim.Native.Nat.{ℕ, _+_, _≤_, _<_, _^_}
+use Prim.Native.Nat.{ℕ, _≤_, _<_, _^_}
 use mathlib.Core.Path.{_≡_}
 use mathlib.Core.List.{List, []}
 use lib.ListN.{length, getD}
@@ -45,6 +45,7 @@ pub record Short (way : Way) : Type 0 where
 -- One of n activities that leaves its machine.
 pub record Ready (n : ℕ) (l : Leaving) : Type 0 where
   pub known : l .activity < n
+  pub machine : l .machine < 16
   pub head : l .head < 2 ^ 62
   pub rest : l .rest < 2 ^ 62
 
@@ -69,7 +70,8 @@ pub record SomeSeen (table machines places starts ends tail : List ℕ) (a : ℕ
   pub seen : Seen problem lines table machines places starts ends tail
   pub known : a < problem .n
 
--- Candidates are machines, and lines are of activities.
+-- Candidates are machines, activities stand on machines, and lines are of activities.
 pub record Open (p : Problem) (lines : Lines) : Type 0 where
   pub candidates : (a : ℕ) → a < p .n → Below 16 (p .candidates a)
+  pub standing : (a : ℕ) → a < p .n → machineOf lines a < 16
   pub lined : (m : ℕ) → Below (p .n) (lineOf lines m)

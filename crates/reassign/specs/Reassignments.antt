@@ -62,7 +62,7 @@ lineBefore line (suc i) = lineAt line i
 
 -- what is before it and behind it on no line
 abbrev pub headOf : Problem → Placing → ℕ → ℕ
-headOf p s a = greatest (endAt s) (linked (taskPred p a) ++ p .predecessors a) (p .release a)
+headOf p s a = greatest (endAt s) (p .predecessors a ++ linked (taskPred p a)) (p .release a)
 
 abbrev pub restOf : Problem → Placing → (tail : List ℕ) → ℕ → ℕ
 restOf p s tail a = greatest (after s tail) (linked (taskSucc p a) ++ p .waiting a) 0

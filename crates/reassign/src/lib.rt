@@ -3,7 +3,7 @@ mod position;
 
 ghost use mathlib.Core.Path.{_≡_};
 ghost use mathlib.Core.List.{List};
-ghost use Prim.Native.Nat.{ℕ, _≤_, _<_, _+_, _^_};
+ghost use Prim.Native.Nat.{ℕ, _≤_, _<_, _^_};
 ghost use lib.ListN.{length, getD};
 ghost use Rattle.words.specs.Words.{words};
 ghost use Rattle.graph.specs.Counting.{Below};
@@ -68,8 +68,8 @@ fn head_of(table: &[usize], ends: &[u64], a: usize) -> u64
 {
     let released = bounds::release_of(table, a);
     let there = bounds::arrival(tables::before_of(table, a), ends, 0);
-    let first = bounds::later(released, there);
-    timing::after_named(tables::named_by(table, a), ends, first)
+    let named = timing::after_named(tables::named_by(table, a), ends, released);
+    bounds::later(named, there)
 }
 
 // The greatest span plus tail of the step after an activity and of those waiting for it.

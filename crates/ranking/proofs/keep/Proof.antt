@@ -1,5 +1,5 @@
 -- `ranking::keep` meets its contract. Assumes nothing.
-use mathlib.Core.Path.{_≡_, sym, ap, _∙_}
+use mathlib.Core.Path.{sym, _∙_}
 use native.Mathlib.Omega.{arith}
 use borrow.Author.Needs.{needs}
 use Rattle.ranking.proofs.KeepLaws.{goes-first, goes-second, goes-third, falls-out}

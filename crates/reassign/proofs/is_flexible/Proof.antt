@@ -1,17 +1,15 @@
-use mathlib.Core.Path.{_≡_, refl, sym, ap, _∙_}
+-- `reassign::is_flexible` meets its contract. The loop's invariant, for whatever problem the table holds: the answer is whether any of those left has two candidates.
+use mathlib.Core.Path.{_≡_, sym, ap, _∙_}
 use mathlib.Core.Bool.{true, false}
-use mathlib.Core.List.{List}
 use Prim.Native.Nat.{ℕ, _+_, _-_, _≤_}
 use native.Mathlib.Omega.{arith}
 use borrow.Author.Tests.{le-leb, lt-leb}
-use denote.Ref.{now}
 use lib.Dec.{leb}
 use lib.ListN.{length}
 use Rattle.plan.specs.Problem.{Problem}
 use Rattle.tables.specs.Tabled.{Tabled}
 use Rattle.reassign.specs.Reassignments.{anyFrom, flexible}
 use Rattle.reassign.proofs.WayLaws.{any-here, any-next, any-none}
-use borrow.Author.Needs.{needs}
 use Rattle.reassign.proofs.is_flexible.Statement.{statement}
 use Rattle.reassign.proofs.is_flexible.Tie as tie
 

@@ -1,8 +1,7 @@
-use mathlib.Core.Path.{_≡_, sym, ap, _∙_}
+-- `reassign::leaving_of` meets its contract.
+use mathlib.Core.Path.{_∙_}
 use native.Mathlib.Omega.{arith}
 use denote.Ref.{now}
-use lib.ListN.{length}
-use borrow.Author.Needs.{needs}
 use Rattle.reassign.proofs.leaving_of.Statement.{statement}
 use Rattle.reassign.proofs.leaving_of.Tie as tie
 

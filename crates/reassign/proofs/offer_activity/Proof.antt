@@ -1,7 +1,6 @@
-use mathlib.Core.Path.{_≡_, sym, ap, ap₂, _∙_}
+-- `reassign::offer_activity` meets its contract.
 use native.Mathlib.Omega.{arith}
 use denote.Ref.{now}
-use lib.ListN.{length}
 use Rattle.words.specs.Words.{words}
 use Rattle.plan.specs.Input.{problemOf}
 use Rattle.lines.specs.Lines.{linesIn}
@@ -24,7 +23,7 @@ offer-candidates-requires c κs =
     let known = c .before .before .before .before .before .before .before .before .before .before .pre .0 .3 in
     let el = c .before .leaving-of .ensures p lines v known in
     let ec = c .candidates-of .ensures p (v .tabled) known (v .few) in
-    ((c .before .before .before .before .before .before .before .before .before .before .pre .0 .0, c .before .before .before .before .before .before .before .before .before .before .pre .0 .1, rw ec (c .before .before .before .before .before .before .before .before .before .before .pre .0 .2 .candidates (c .before .before .before .before .before .before .before .before .before .before .args .a) known), rw (v .tailed) (c .before .before .before .before .before .before .before .before .before .before .pre .0 .2 .lined)), (v .reckoned, rw el (ready v (c .before .before .before .before .before .before .before .before .before .before .args .a) known), omega (arith, v .tailed, v .few), c .before .before .before .before .before .before .before .before .before .before .pre .0 .4))
+    ((c .before .before .before .before .before .before .before .before .before .before .pre .0 .0, c .before .before .before .before .before .before .before .before .before .before .pre .0 .1, rw ec (c .before .before .before .before .before .before .before .before .before .before .pre .0 .2 .candidates (c .before .before .before .before .before .before .before .before .before .before .args .a) known), rw (v .tailed) (c .before .before .before .before .before .before .before .before .before .before .pre .0 .2 .lined)), (v .reckoned, rw el (ready v (c .before .before .before .before .before .before .before .before .before .before .args .a) known (c .before .before .before .before .before .before .before .before .before .before .pre .0 .2 .standing (c .before .before .before .before .before .before .before .before .before .before .args .a) known)), omega (arith, v .tailed, v .few), c .before .before .before .before .before .before .before .before .before .before .pre .0 .4))
 
 returns : tie.Need-returns
 returns c =

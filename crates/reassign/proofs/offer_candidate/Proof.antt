@@ -1,9 +1,6 @@
-use mathlib.Core.Path.{_≡_, refl, sym, ap, _∙_}
-use Prim.Native.Nat.{ℕ, _≤_}
+-- `reassign::offer_candidate` meets its contract.
 use native.Mathlib.Omega.{arith}
 use borrow.Author.Tests.{eq-eqb, ne-eqb}
-use denote.Ref.{now}
-use lib.ListN.{length, getD}
 use Rattle.ranking.specs.Ranking.{withAll}
 use Rattle.reassign.proofs.OfferLaws.{line-lent}
 use borrow.Author.Needs.{needs}
@@ -17,7 +14,7 @@ returns c = (rw (eq-eqb _ _ (c .if1 .taken)), c .before .before .before .before 
 time-on-requires : tie.Need-time-on-requires
 time-on-requires c κs =
     let b = c .before .before .before .before .before .before .before in
-    (b .pre .0 .0, omega (arith, b .pre .1 .1 .known, b .pre .1 .2), omega (arith, b .pre .0 .2))
+    (b .pre .0 .0, omega (arith, b .pre .1 .1 .known, b .pre .1 .2), omega (arith, b .pre .0 .2, b .pre .1 .1 .machine))
 
 mul-start : tie.Need-mul-start
 mul-start c = search needs

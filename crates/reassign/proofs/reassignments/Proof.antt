@@ -1,3 +1,4 @@
+-- `reassign::reassignments` meets its contract. Three offered from none are the best three.
 use denote.Ref.{now}
 use Rattle.words.specs.Words.{words}
 use Rattle.plan.specs.Input.{problemOf}

@@ -1,5 +1,4 @@
-use mathlib.Core.Path.{_≡_, ap}
-use native.Mathlib.Omega.{arith}
+-- `reassign::time_on` meets its contract.
 use borrow.Author.Needs.{needs}
 use Rattle.reassign.proofs.time_on.Statement.{statement}
 use Rattle.reassign.proofs.time_on.Tie as tie

@@ -1,10 +1,9 @@
+-- `reassign::position::best_position` meets its contract. The loop's invariant: the least so far, with the positions left, gives the least of all.
 use Prim.Native.Nat.{_-_}
 use native.Mathlib.Omega.{arith}
-use denote.Ref.{now}
 use Rattle.reassign.specs.Reassignments.{lengthAt}
 use Rattle.reassign.specs.Reassigning.{unordered}
 use Rattle.reassign.proofs.PositionLaws.{Choosing, choosing-begin, chosen, shorter, no-shorter}
-use borrow.Author.Needs.{needs}
 use Rattle.reassign.proofs.position.best_position.Statement.{statement}
 use Rattle.reassign.proofs.position.best_position.Tie as tie
 

@@ -1,3 +1,4 @@
+-- `reassign::position::leading_begun` meets its contract. What leads from the turn on is the rest of what leads.
 use Prim.Native.Nat.{_-_}
 use native.Mathlib.Omega.{arith}
 use borrow.Author.Tests.{le-ltb, lt-ltb}
@@ -6,7 +7,6 @@ use lib.Dec.{ltb}
 use lib.ListN.{length, getD}
 use Rattle.graph.proofs.CountingLaws.{below-at}
 use Rattle.reassign.proofs.PositionLaws.{Leading, leading-begin, leading-stop, leading-again, leading-end}
-use borrow.Author.Needs.{needs}
 use Rattle.reassign.proofs.position.leading_begun.Statement.{statement}
 use Rattle.reassign.proofs.position.leading_begun.Tie as tie
 

@@ -1,3 +1,4 @@
+-- `reassign::position::leading_ended` meets its contract. What leads from the turn on is the rest of what leads.
 use Prim.Native.Nat.{_-_}
 use native.Mathlib.Omega.{arith}
 use borrow.Author.Tests.{le-leb, lt-leb}
@@ -6,7 +7,6 @@ use lib.Dec.{leb}
 use lib.ListN.{length, getD}
 use Rattle.graph.proofs.CountingLaws.{below-at}
 use Rattle.reassign.proofs.PositionLaws.{Leading, leading-begin, leading-stop, leading-again, leading-end}
-use borrow.Author.Needs.{needs}
 use Rattle.reassign.proofs.position.leading_ended.Statement.{statement}
 use Rattle.reassign.proofs.position.leading_ended.Tie as tie
 

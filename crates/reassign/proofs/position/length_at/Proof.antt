@@ -1,4 +1,5 @@
-use mathlib.Core.Path.{_≡_, sym, ap, ap₂, _∙_}
+-- `reassign::position::length_at` meets its contract. The greater of head and the end before, and the greatest span plus tail, are greatest over a link.
+use mathlib.Core.Path.{_≡_, ap, _∙_}
 use Prim.Native.Nat.{ℕ, _+_, _-_, _<_, _^_, max}
 use native.Mathlib.Omega.{arith}
 use denote.Ref.{now}

@@ -1,3 +1,4 @@
+-- `reassign::position::line_at` meets its contract.
 use borrow.Author.Tests.{lt-ltb, le-ltb}
 use borrow.Author.Needs.{needs}
 use Rattle.reassign.proofs.position.line_at.Statement.{statement}

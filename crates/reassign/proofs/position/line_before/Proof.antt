@@ -1,8 +1,9 @@
+-- `reassign::position::line_before` meets its contract.
 use mathlib.Core.Path.{_≡_, sym, ap, _∙_}
 use denote.Ref.{now}
 use native.Mathlib.Omega.{arith}
 use Prim.Native.Nat.{suc, _-_}
-use Rattle.reassign.specs.Reassignments.{lineAt, lineBefore}
+use Rattle.reassign.specs.Reassignments.{lineBefore}
 use borrow.Author.Needs.{needs}
 use Rattle.reassign.proofs.position.line_before.Statement.{statement}
 use Rattle.reassign.proofs.position.line_before.Tie as tie
