@@ -210,18 +210,8 @@ fn offer_candidates(
     let mut best = three;
     let mut i = 0;
     while i < candidates.len() {
-        best = offer_candidate(
-            s,
-            z,
-            cells,
-            lens,
-            starts,
-            ends,
-            tail,
-            leaving,
-            candidates[i],
-            best,
-        );
+        let to = candidates[i];
+        best = offer_candidate(s, z, cells, lens, starts, ends, tail, leaving, to, best);
         i += 1;
     }
     best
@@ -286,6 +276,7 @@ fn offer_path(
     let mut best = three;
     let mut i = 0;
     while i < path.len() {
+        let a = path[i];
         best = offer_activity(
             s,
             z,
@@ -297,7 +288,7 @@ fn offer_path(
             starts,
             ends,
             tail,
-            path[i],
+            a,
             best,
         );
         i += 1;

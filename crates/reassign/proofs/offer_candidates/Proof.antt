@@ -25,11 +25,11 @@ abbrev μ-loop : tie.MeasureT-loop
 loop-holds : tie.Need-loop-holds Inv-loop μ-loop
 loop-holds c = offering-begin _ _ _ (c .before .before .before .before .before .before .pre .1 .3)
 
-mul-offer-candidate : tie.Need-mul-offer-candidate Inv-loop μ-loop
-mul-offer-candidate c = omega arith
+mul-to : tie.Need-mul-to Inv-loop μ-loop
+mul-to c = omega arith
 
-shared-slice-read-offer-candidate : tie.Need-shared-slice-read-offer-candidate Inv-loop μ-loop
-shared-slice-read-offer-candidate c = omega arith
+shared-slice-read-to : tie.Need-shared-slice-read-to Inv-loop μ-loop
+shared-slice-read-to c = omega arith
 
 offer-candidate-requires : tie.Need-offer-candidate-requires Inv-loop μ-loop
 offer-candidate-requires c κs =
@@ -56,8 +56,8 @@ offer-candidates-spec =
     Inv-loop
     μ-loop
     loop-holds
-    mul-offer-candidate
-    shared-slice-read-offer-candidate
+    mul-to
+    shared-slice-read-to
     offer-candidate-requires
     add-i
     loop-less

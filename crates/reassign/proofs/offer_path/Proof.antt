@@ -25,11 +25,11 @@ abbrev μ-loop : tie.MeasureT-loop
 loop-holds : tie.Need-loop-holds Inv-loop μ-loop
 loop-holds c = offering-begin _ _ _ (c .before .before .before .before .before .before .before .before .before .pre .0 .4)
 
-mul-offer-activity : tie.Need-mul-offer-activity Inv-loop μ-loop
-mul-offer-activity c = omega arith
+mul-a : tie.Need-mul-a Inv-loop μ-loop
+mul-a c = omega arith
 
-shared-slice-read-offer-activity : tie.Need-shared-slice-read-offer-activity Inv-loop μ-loop
-shared-slice-read-offer-activity c = omega arith
+shared-slice-read-a : tie.Need-shared-slice-read-a Inv-loop μ-loop
+shared-slice-read-a c = omega arith
 
 offer-activity-requires : tie.Need-offer-activity-requires Inv-loop μ-loop
 offer-activity-requires c κs =
@@ -56,8 +56,8 @@ offer-path-spec =
     Inv-loop
     μ-loop
     loop-holds
-    mul-offer-activity
-    shared-slice-read-offer-activity
+    mul-a
+    shared-slice-read-a
     offer-activity-requires
     add-i
     loop-less
