@@ -72,13 +72,11 @@ module _ {f : ℕ → List Rated} {list : List ℕ} {held : List Rated} {best : 
 
 -- ---- all of them, or none
 
-pub all-offered : {choices any : Bool} {kept none : List Rated} (l : List Rated) → choices ≡ any → choices ≡ true → none ≡ [] → kept ≡ withAll none l
-    → kept ≡ cond any (bestThree l) []
-all-offered l e t z k =
-    let q = sym e ∙ t in
-    rw q (k ∙ ap (λ (held : List Rated). withAll held l) z ∙ streamed-all l)
+pub all-offered : {kept none : List Rated} (l : List Rated) → none ≡ [] → kept ≡ withAll none l → kept ≡ bestThree l
+all-offered l z k = k ∙ ap (λ (held : List Rated). withAll held l) z ∙ streamed-all l
 
-pub no-choice : {choices any : Bool} {none : List Rated} (l : List Rated) → choices ≡ any → choices ≡ false → none ≡ [] → none ≡ cond any (bestThree l) []
-no-choice l e t z =
-    let q = sym e ∙ t in
-    rw q z
+pub by-choice : {choices any : Bool} (l : List Rated) → choices ≡ any → choices ≡ true → l ≡ cond any l []
+by-choice l e t = let q = sym e ∙ t in rw q
+
+pub no-choice : {choices any : Bool} {none : List Rated} (l : List Rated) → choices ≡ any → choices ≡ false → none ≡ [] → none ≡ cond any l []
+no-choice l e t z = let q = sym e ∙ t in rw q z

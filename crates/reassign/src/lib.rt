@@ -13,7 +13,7 @@ ghost use Rattle.plan.specs.Found.{Placed};
 ghost use Rattle.tables.specs.Tabled.{Tabled};
 ghost use Rattle.lines.specs.Lines.{Lines, linesIn};
 ghost use Rattle.moves.specs.Moves.{lineOf, Holds};
-ghost use Rattle.ranking.specs.Ranking.{ranked, withAll};
+ghost use Rattle.ranking.specs.Ranking.{bestThree, ranked, withAll};
 ghost use Rattle.timing.specs.Placing.{Bound};
 ghost use Rattle.path.specs.Placing.{placed};
 ghost use Rattle.reassign.specs.Reassignments.{flexible, headOf, restOf, timeOn, leavingOf, onLine, toMachine, ofActivity, gathered, reassignments, bestReassignments};
@@ -253,8 +253,8 @@ fn offer_activity(
     )
 }
 
-// Offers all moves of the path's activities.
-fn offer_path(
+// The best three of all moves of the path's activities.
+fn best_on_path(
     s: &[u8],
     z: Layout,
     table: &[usize],
@@ -266,17 +266,15 @@ fn offer_path(
     ends: &[u64],
     tail: &[u64],
     path: &[usize],
-    three: Three,
 ) -> Three
-    requires { ⌜ Placed z × Holds (now cells) (now lens) × Open (problemOf (words (now s)) z) (linesIn (now cells) (now lens)) × Below (z .activities) (now path) × (three .count ≤ 3) ⌝ }
+    requires { ⌜ Placed z × Holds (now cells) (now lens) × Open (problemOf (words (now s)) z) (linesIn (now cells) (now lens)) × Below (z .activities) (now path) ⌝ }
     requires { ⌜ Seen (problemOf (words (now s)) z) (linesIn (now cells) (now lens)) (now table) (now machines) (now places) (now starts) (now ends) (now tail) ⌝ }
-    ensures { λ r. ⌜ ranked r ≡ withAll (ranked three) (reassignments (problemOf (words (now (s .entry))) z) (linesIn (now (cells .entry)) (now (lens .entry))) (unordered (now (starts .entry)) (now (ends .entry))) (now (tail .entry)) (now (path .entry))) ⌝ }
+    ensures { λ r. ⌜ ranked r ≡ bestThree (reassignments (problemOf (words (now (s .entry))) z) (linesIn (now (cells .entry)) (now (lens .entry))) (unordered (now (starts .entry)) (now (ends .entry))) (now (tail .entry)) (now (path .entry))) ⌝ }
     ensures { λ r. ⌜ r .count ≤ 3 ⌝ }
 {
-    let mut best = three;
+    let mut best = ranking::none();
     let mut i = 0;
     while i < path.len() {
-        let a = path[i];
         best = offer_activity(
             s,
             z,
@@ -288,7 +286,7 @@ fn offer_path(
             starts,
             ends,
             tail,
-            a,
+            path[i],
             best,
         );
         i += 1;
@@ -317,9 +315,8 @@ pub fn reassignments(
     ensures { λ r. ⌜ ((order : List ℕ) → ranked r ≡ bestReassignments (problemOf (words (now (s .entry))) z) (linesIn (now (cells .entry)) (now (lens .entry))) (placed order (now (starts .entry)) (now (ends .entry))) (now (tail .entry)) (now (path .entry))) ⌝ }
     ensures { λ r. ⌜ r .count ≤ 3 ⌝ }
 {
-    let none = ranking::none();
     if choices {
-        return offer_path(
+        return best_on_path(
             s,
             z,
             table,
@@ -331,8 +328,7 @@ pub fn reassignments(
             ends,
             tail,
             path,
-            none,
         );
     }
-    none
+    ranking::none()
 }
