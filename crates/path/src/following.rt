@@ -34,7 +34,7 @@ fn span_and_tail(starts: &[u64], ends: &[u64], tail: &[u64], x: usize) -> u64
 }
 
 // The greatest of a time and of all listed ones' span plus tail.
-fn after_all(list: &[usize], starts: &[u64], ends: &[u64], tail: &[u64], first: u64) -> u64
+pub fn after_all(list: &[usize], starts: &[u64], ends: &[u64], tail: &[u64], first: u64) -> u64
     requires { ⌜ Below (length (now tail)) (now list) × Addable (length (now tail)) (now starts) (now ends) (now tail) ⌝ }
     ensures { λ r. ⌜ r ≡ greatest (λ x. getD (now (ends .entry)) x 0 - getD (now (starts .entry)) x 0 + getD (now (tail .entry)) x 0) (now (list .entry)) first ⌝ }
 {
@@ -51,7 +51,7 @@ fn after_all(list: &[usize], starts: &[u64], ends: &[u64], tail: &[u64], first: 
 }
 
 // The greater of a time and of the linked one's span plus tail.
-fn after_link(link: Link, starts: &[u64], ends: &[u64], tail: &[u64], first: u64) -> u64
+pub fn after_link(link: Link, starts: &[u64], ends: &[u64], tail: &[u64], first: u64) -> u64
     requires { ⌜ Below (length (now tail)) (linked link) × Addable (length (now tail)) (now starts) (now ends) (now tail) ⌝ }
     ensures { λ r. ⌜ r ≡ greatest (λ x. getD (now (ends .entry)) x 0 - getD (now (starts .entry)) x 0 + getD (now (tail .entry)) x 0) (linked link) first ⌝ }
 {

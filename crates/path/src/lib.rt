@@ -1,6 +1,8 @@
 // What one search step finds out about timed lines: the critical path, and the tail behind each activity.
 mod following;
 
+pub use following::after_all;
+pub use following::after_link;
 pub use following::tails;
 ghost use mathlib.Core.Path.{_≡_};
 ghost use Prim.Native.Nat.{ℕ, _+_, _^_, _<_, _≤_};

@@ -1,0 +1,3 @@
+pub mod KeepLaws
+pub mod StreamLaws
+pub mod EveryLaws

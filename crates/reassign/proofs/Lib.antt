@@ -1,0 +1,7 @@
+pub mod PositionLaws
+pub mod WayLaws
+pub mod OfferLaws
+pub mod SeenLaws
+pub mod ReassignedLaws
+pub mod MetLaws
+pub mod Worked

@@ -1,0 +1,2 @@
+pub mod Reassignments
+pub mod Reassigning
