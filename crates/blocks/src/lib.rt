@@ -1,0 +1,2 @@
+// Blocks of the critical path: their moves, the estimate of each, and the three that are tried.
+mod stretch;
