@@ -65,14 +65,7 @@ fn head_of(table: &[usize], ends: &[u64], ready: u64, x: usize) -> u64
 }
 
 // The tail of an activity, where `next` is the span plus tail of the one behind it on its line.
-fn tail_of(
-    table: &[usize],
-    starts: &[u64],
-    ends: &[u64],
-    tail: &[u64],
-    next: u64,
-    x: usize,
-) -> u64
+fn tail_of(table: &[usize], starts: &[u64], ends: &[u64], tail: &[u64], next: u64, x: usize) -> u64
     requires { ⌜ Known (now table) (now tail) x × Addable (length (now tail)) (now starts) (now ends) (now tail) ⌝ }
     ensures { λ r. ⌜ ((p : Problem) → Tabled p (now (table .entry)) → x < p .n → length (now (tail .entry)) ≡ p .n → r ≡ greatest (λ b. getD (now (ends .entry)) b 0 - getD (now (starts .entry)) b 0 + getD (now (tail .entry)) b 0) (linked (taskSucc p x)) next) ⌝ }
 {
@@ -181,5 +174,16 @@ pub fn estimate(
     ensures { λ r. ⌜ ((p : Problem) (order : List ℕ) → Weighed p (now (table .entry)) (now (starts .entry)) (now (ends .entry)) → Low (p .n) (now (tail .entry)) → Lined (p .n) (now (line .entry)) → r ≡ estimateOf p (placed order (now (starts .entry)) (now (ends .entry))) (now (tail .entry)) (now (line .entry)) (shifted (now (line .entry)) from to) first last) ⌝ }
 {
     fill_heads(line, from, to, first, last, table, starts, ends, heads);
-    longest(line, from, to, first, last, table, starts, ends, tail, heads)
+    longest(
+        line,
+        from,
+        to,
+        first,
+        last,
+        table,
+        starts,
+        ends,
+        tail,
+        heads,
+    )
 }

@@ -1,29 +1,29 @@
+-- `blocks::stretch::after_at` meets its contract.
+use mathlib.Core.Path.{refl, _∙_}
+use native.Mathlib.Omega.{arith}
+use borrow.Author.Tests.{lt-ltb, le-ltb}
+use denote.Ref.{now}
+use lib.ListN.{length}
+use Rattle.graph.proofs.CountingLaws.{below-at}
 use borrow.Author.Needs.{needs}
 use Rattle.blocks.proofs.stretch.after_at.Statement.{statement}
 use Rattle.blocks.proofs.stretch.after_at.Tie as tie
-use Rattle.blocks.proofs.stretch.after_at.Reads as reads
-use Rattle.blocks.proofs.stretch.after_at.Lts as lts
-use Rattle.blocks.proofs.stretch.span_and_tail.Reads as span-and-tail-reads
 
--- src/stretch.rt:106:50
 mul-span-and-tail : tie.Need-mul-span-and-tail
 mul-span-and-tail c = search needs
 
--- src/stretch.rt:106:50
 shared-slice-read-span-and-tail : tie.Need-shared-slice-read-span-and-tail
 shared-slice-read-span-and-tail c = search needs
 
--- src/stretch.rt:106:9
 span-and-tail-requires : tie.Need-span-and-tail-requires
-span-and-tail-requires c κs = ?
+span-and-tail-requires c κs =
+    (below-at (length (now (c .before .before .before .before .before .before .args .tail))) (now (c .before .before .before .before .before .before .args .line)) (c .before .before .before .before .before .before .args .at) (c .before .before .before .before .before .before .pre .0) (c .before .if1 .taken), c .before .before .before .before .before .before .pre .1)
 
--- src/stretch.rt:106:9
 returns : tie.Need-returns
-returns c = ?
+returns c = λ order. rw (lt-ltb _ _ (c .before .before .if1 .taken)) (c .span-and-tail .ensures)
 
--- src/stretch.rt:101:1
 returns-2 : tie.Need-returns-2
-returns-2 c = ?
+returns-2 c = λ order. rw (le-ltb _ _ (c .if1 .left))
 
 pub after-at-spec : {M : Type 1} → statement M
 after-at-spec =

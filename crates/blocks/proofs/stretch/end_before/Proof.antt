@@ -1,36 +1,36 @@
+-- `blocks::stretch::end_before` meets its contract.
+use Prim.Native.Nat.{_-_}
+use native.Mathlib.Omega.{arith}
+use denote.Ref.{now}
+use lib.ListN.{length}
+use Rattle.graph.proofs.CountingLaws.{below-at}
+use Rattle.blocks.proofs.StretchLaws.{front, behind-front}
 use borrow.Author.Needs.{needs}
 use Rattle.blocks.proofs.stretch.end_before.Statement.{statement}
 use Rattle.blocks.proofs.stretch.end_before.Tie as tie
-use Rattle.blocks.proofs.stretch.end_before.Reads as reads
-use Rattle.blocks.proofs.stretch.end_before.Lts as lts
 
--- src/stretch.rt:94:9
 returns : tie.Need-returns
-returns c = search needs
+returns c = front (now (c .before .args .ends)) (now (c .before .args .line)) (c .before .args .at) (c .if1 .taken)
 
--- src/stretch.rt:96:18
 sub-x : tie.Need-sub-x
 sub-x c = search needs
 
--- src/stretch.rt:96:13
 mul-x : tie.Need-mul-x
 mul-x c = search needs
 
--- src/stretch.rt:96:13
 shared-slice-read-x : tie.Need-shared-slice-read-x
 shared-slice-read-x c = search needs
 
--- src/stretch.rt:97:5
 mul-result : tie.Need-mul-result
-mul-result c = ?
+mul-result c =
+    let h = below-at (length (now (c .before .before .args .ends))) (now (c .before .before .args .line)) (c .before .before .args .at - 1) (c .before .before .pre .1) (omega arith) in omega arith
 
--- src/stretch.rt:97:5
 shared-slice-read-result : tie.Need-shared-slice-read-result
-shared-slice-read-result c = ?
+shared-slice-read-result c =
+    let h = below-at (length (now (c .before .before .before .args .ends))) (now (c .before .before .before .args .line)) (c .before .before .before .args .at - 1) (c .before .before .before .pre .1) (omega arith) in omega arith
 
--- src/stretch.rt:89:1
 returns-2 : tie.Need-returns-2
-returns-2 c = ?
+returns-2 c = behind-front (now (c .before .before .before .args .ends)) (now (c .before .before .before .args .line)) (c .before .before .before .args .at) (c .before .before .if1 .left)
 
 pub end-before-spec : {M : Type 1} → statement M
 end-before-spec =

@@ -1,97 +1,145 @@
+-- `blocks::stretch::longest` meets its contract. The loop's invariant: those passed, from the position on, were gone through; whatever the
+-- problem, what is behind the position is not long.
+use Prim.Native.Nat.{ℕ, _+_, _-_, _*_, _^_, _≤_}
+use mathlib.Core.Path.{_≡_, refl, ap, _∙_}
+use mathlib.Core.List.{List, []}
+use native.Mathlib.Omega.{arith}
+use denote.Ref.{now}
+use lib.ListN.{length, getD}
+use Rattle.graph.proofs.CountingLaws.{below-at}
+use Rattle.plan.specs.Problem.{Problem}
+use Rattle.moves.specs.Moves.{shifted}
+use Rattle.path.specs.Placing.{placed}
+use Rattle.blocks.specs.Estimates.{endBefore, afterAt}
+use Rattle.blocks.specs.Weighing.{Weighed, Low, Lined, HeadsHeld}
+use Rattle.blocks.proofs.StretchLaws.{stands, span-all, tailable, addable, after-at-low, rest-low, Passing, tails-begin, tails-all, tails-again}
+use borrow.Author.Needs.{needs}
 use Rattle.blocks.proofs.stretch.longest.Statement.{statement}
 use Rattle.blocks.proofs.stretch.longest.Tie as tie
-use Rattle.blocks.proofs.stretch.longest.Reads as reads
-use Rattle.blocks.proofs.stretch.longest.Lts as lts
-use Rattle.blocks.proofs.stretch.after_at.Reads as after-at-reads
-use Rattle.blocks.proofs.stretch.greater.Reads as greater-reads
-use Rattle.blocks.proofs.stretch.tail_of.Reads as tail-of-reads
-use Rattle.moves.proofs.moved.Reads as moved-reads
 
 abbrev Inv-loop : tie.InvT-loop
-Inv-loop line from to first last table starts ends tail heads next₀ most₀ k₀ next most k = ?
+Inv-loop line from to first last table starts ends tail heads next₀ most₀ k₀ next most k =
+    (first ≤ k)
+    × (k ≤ last + 1)
+    × (next ≤ 2 ^ 42 + (last + 1 - k) * 2 ^ 34)
+    × ((p : Problem) (order : List ℕ) → Weighed p table starts ends → Low (p .n) tail → Lined (p .n) line → HeadsHeld p (placed order starts ends) (shifted line from to) (endBefore ends line first) first last heads → Passing p (placed order starts ends) tail (shifted line from to) (endBefore ends line first) (afterAt (placed order starts ends) tail line (last + 1)) first last next most k)
 
 abbrev μ-loop : tie.MeasureT-loop
-μ-loop line from to first last table starts ends tail heads next₀ most₀ k₀ next most k = ?
+μ-loop line from to first last table starts ends tail heads next₀ most₀ k₀ next most k =
+    k
 
--- src/stretch.rt:154:55
 add-after-at : tie.Need-add-after-at Inv-loop μ-loop
-add-after-at c = ?
+add-after-at c = omega (arith, c .before .before .before .before .before .before .pre .0 .1 .within, c .before .before .before .before .before .before .pre .0 .0 .lined .short)
 
--- src/stretch.rt:154:9
 after-at-requires : tie.Need-after-at-requires Inv-loop μ-loop
-after-at-requires c κs = ?
+after-at-requires c κs =
+    let d = c .before .before .before .before .before .before .pre .0 .0 .low in (rw (d .tailed) (c .before .before .before .before .before .before .pre .0 .0 .lined .standing), addable (c .before .before .before .before .before .before .pre .0 .0 .weighed) d)
 
--- src/stretch.rt:156:17
 add-k : tie.Need-add-k Inv-loop μ-loop
-add-k c = ?
+add-k c = omega (arith, c .before .before .before .before .before .before .before .pre .0 .1 .within, c .before .before .before .before .before .before .before .pre .0 .0 .lined .short)
 
--- src/stretch.rt:157:5
 loop-holds : tie.Need-loop-holds Inv-loop μ-loop
-loop-holds c = ?
+loop-holds c =
+    let r = c .before .before .before .before .before .before .before .pre .0 .1 in
+    (omega (arith, r .rising), omega arith, omega (arith, c .after-at .ensures [], after-at-low (c .before .before .before .before .before .before .before .pre .0 .0 .weighed) [] (c .before .before .before .before .before .before .before .pre .0 .0 .low) (now (c .before .before .before .before .before .before .before .args .line)) (c .before .before .before .before .before .before .before .args .last + 1)), λ p order v l e held. tails-begin (c .after-at .ensures order))
 
--- src/stretch.rt:158:9
 sub-k : tie.Need-sub-k Inv-loop μ-loop
-sub-k c = ?
+sub-k c = omega arith
 
--- src/stretch.rt:159:13
 moved-requires : tie.Need-moved-requires Inv-loop μ-loop
-moved-requires c κs = ?
+moved-requires c κs = (c .before .before .before .before .before .before .before .before .before .pre .0 .1 .leaves, c .before .before .before .before .before .before .before .before .before .pre .0 .1 .enters, omega (arith, c .before .before .before .before .before .before .before .before .before .pre .0 .1 .within, c .before .loop .inv .1))
 
--- src/stretch.rt:160:20
 mul-rest : tie.Need-mul-rest Inv-loop μ-loop
-mul-rest c = ?
+mul-rest c =
+    let w = c .before .before .before .before .before .before .before .before .before .before .pre .0 .0 .weighed in
+    let d = c .before .before .before .before .before .before .before .before .before .before .pre .0 .0 .low in
+    let h = stands (c .before .before .before .before .before .before .before .before .before .before .pre .0 .0 .lined) (c .before .before .before .before .before .before .before .before .before .before .pre .0 .1) (c .before .before .loop .k - 1) (omega (arith, c .before .before .loop .inv .1)) in
+    omega (arith, c .moved .ensures, w .started, w .ended)
 
--- src/stretch.rt:160:20
 shared-slice-read-rest : tie.Need-shared-slice-read-rest Inv-loop μ-loop
-shared-slice-read-rest c = ?
+shared-slice-read-rest c =
+    let w = c .before .before .before .before .before .before .before .before .before .before .before .pre .0 .0 .weighed in
+    let d = c .before .before .before .before .before .before .before .before .before .before .before .pre .0 .0 .low in
+    let h = stands (c .before .before .before .before .before .before .before .before .before .before .before .pre .0 .0 .lined) (c .before .before .before .before .before .before .before .before .before .before .before .pre .0 .1) (c .before .before .before .loop .k - 1) (omega (arith, c .before .before .before .loop .inv .1)) in
+    omega (arith, c .before .moved .ensures, w .started, w .ended)
 
--- src/stretch.rt:160:30
 mul-rest-2 : tie.Need-mul-rest-2 Inv-loop μ-loop
-mul-rest-2 c = ?
+mul-rest-2 c =
+    let w = c .before .before .before .before .before .before .before .before .before .before .before .pre .0 .0 .weighed in
+    let d = c .before .before .before .before .before .before .before .before .before .before .before .pre .0 .0 .low in
+    let h = stands (c .before .before .before .before .before .before .before .before .before .before .before .pre .0 .0 .lined) (c .before .before .before .before .before .before .before .before .before .before .before .pre .0 .1) (c .before .before .before .loop .k - 1) (omega (arith, c .before .before .before .loop .inv .1)) in
+    omega (arith, c .before .moved .ensures, w .started, w .ended)
 
--- src/stretch.rt:160:30
 shared-slice-read-rest-2 : tie.Need-shared-slice-read-rest-2 Inv-loop μ-loop
-shared-slice-read-rest-2 c = ?
+shared-slice-read-rest-2 c =
+    let w = c .before .before .before .before .before .before .before .before .before .before .before .before .pre .0 .0 .weighed in
+    let d = c .before .before .before .before .before .before .before .before .before .before .before .before .pre .0 .0 .low in
+    let h = stands (c .before .before .before .before .before .before .before .before .before .before .before .before .pre .0 .0 .lined) (c .before .before .before .before .before .before .before .before .before .before .before .before .pre .0 .1) (c .before .before .before .before .loop .k - 1) (omega (arith, c .before .before .before .before .loop .inv .1)) in
+    omega (arith, c .before .before .moved .ensures, w .started, w .ended)
 
--- src/stretch.rt:160:20
 sub-rest : tie.Need-sub-rest Inv-loop μ-loop
-sub-rest c = ?
+sub-rest c =
+    let w = c .before .before .before .before .before .before .before .before .before .before .before .before .pre .0 .0 .weighed in
+    let d = c .before .before .before .before .before .before .before .before .before .before .before .before .pre .0 .0 .low in
+    let h = stands (c .before .before .before .before .before .before .before .before .before .before .before .before .pre .0 .0 .lined) (c .before .before .before .before .before .before .before .before .before .before .before .before .pre .0 .1) (c .before .before .before .before .loop .k - 1) (omega (arith, c .before .before .before .before .loop .inv .1)) in
+    omega (arith, w .upright (c .before .before .moved .result) (omega (arith, c .before .before .moved .ensures)))
 
--- src/stretch.rt:160:42
 tail-of-requires : tie.Need-tail-of-requires Inv-loop μ-loop
-tail-of-requires c κs = ?
+tail-of-requires c κs =
+    let w = c .before .before .before .before .before .before .before .before .before .before .before .before .pre .0 .0 .weighed in
+    let d = c .before .before .before .before .before .before .before .before .before .before .before .before .pre .0 .0 .low in
+    let h = stands (c .before .before .before .before .before .before .before .before .before .before .before .before .pre .0 .0 .lined) (c .before .before .before .before .before .before .before .before .before .before .before .before .pre .0 .1) (c .before .before .before .before .loop .k - 1) (omega (arith, c .before .before .before .before .loop .inv .1)) in
+    (tailable w d (c .before .before .moved .result) (omega (arith, c .before .before .moved .ensures)), addable w d)
 
--- src/stretch.rt:160:20
 add-rest : tie.Need-add-rest Inv-loop μ-loop
-add-rest c = ?
+add-rest c =
+    let w = c .before .before .before .before .before .before .before .before .before .before .before .before .before .pre .0 .0 .weighed in
+    let d = c .before .before .before .before .before .before .before .before .before .before .before .before .before .pre .0 .0 .low in
+    let h = stands (c .before .before .before .before .before .before .before .before .before .before .before .before .before .pre .0 .0 .lined) (c .before .before .before .before .before .before .before .before .before .before .before .before .before .pre .0 .1) (c .before .before .before .before .before .loop .k - 1) (omega (arith, c .before .before .before .before .before .loop .inv .1)) in
+    let x = c .before .before .before .moved .result in
+    omega (arith, c .tail-of .ensures (c .before .before .before .before .before .before .before .before .before .before .before .before .before .pre .0 .0 .problem) (w .tabled) (omega (arith, c .before .before .before .moved .ensures)) (d .tailed), rest-low w [] d (c .before .before .before .before .before .loop .next) x, span-all w x, c .before .before .before .before .before .loop .inv .2, c .before .before .before .before .before .before .before .before .before .before .before .before .before .pre .0 .1 .within, c .before .before .before .before .before .before .before .before .before .before .before .before .before .pre .0 .0 .lined .short)
 
--- src/stretch.rt:161:30
 mul-greater : tie.Need-mul-greater Inv-loop μ-loop
-mul-greater c = ?
+mul-greater c = omega (arith, c .before .before .before .before .before .before .before .before .before .before .before .before .before .pre .0 .1 .within, c .before .before .before .before .before .before .before .before .before .before .before .before .before .pre .0 .2, c .before .before .before .before .before .loop .inv .1)
 
--- src/stretch.rt:161:30
 shared-slice-read-greater : tie.Need-shared-slice-read-greater Inv-loop μ-loop
-shared-slice-read-greater c = ?
+shared-slice-read-greater c = omega (arith, c .before .before .before .before .before .before .before .before .before .before .before .before .before .before .pre .0 .1 .within, c .before .before .before .before .before .before .before .before .before .before .before .before .before .before .pre .0 .2, c .before .before .before .before .before .before .loop .inv .1)
 
--- src/stretch.rt:161:30
 add-greater : tie.Need-add-greater Inv-loop μ-loop
-add-greater c = ?
+add-greater c =
+    let w = c .before .before .before .before .before .before .before .before .before .before .before .before .before .before .pre .0 .0 .weighed in
+    let d = c .before .before .before .before .before .before .before .before .before .before .before .before .before .before .pre .0 .0 .low in
+    let h = stands (c .before .before .before .before .before .before .before .before .before .before .before .before .before .before .pre .0 .0 .lined) (c .before .before .before .before .before .before .before .before .before .before .before .before .before .before .pre .0 .1) (c .before .before .before .before .before .before .loop .k - 1) (omega (arith, c .before .before .before .before .before .before .loop .inv .1)) in
+    let x = c .before .before .before .before .moved .result in
+    let k = c .before .before .before .before .before .before .loop .k - 1 in
+    let f = c .before .before .before .before .before .before .before .before .before .before .before .before .before .before .args .first in
+    let e : f + (k - f) ≡ k = omega (arith, c .before .before .before .before .before .loop-test .taken) in
+    omega (arith, ap (λ i. getD (now (c .before .before .before .before .before .before .before .before .before .before .before .before .before .before .args .heads)) i 0) e, c .before .before .before .before .before .before .before .before .before .before .before .before .before .before .pre .1 (k - f) (omega (arith, c .before .before .before .before .before .before .loop .inv .1)), c .before .tail-of .ensures (c .before .before .before .before .before .before .before .before .before .before .before .before .before .before .pre .0 .0 .problem) (w .tabled) (omega (arith, c .before .before .before .before .moved .ensures)) (d .tailed), rest-low w [] d (c .before .before .before .before .before .before .loop .next) x, span-all w x, c .before .before .before .before .before .before .loop .inv .2, c .before .before .before .before .before .before .before .before .before .before .before .before .before .before .pre .0 .1 .within, c .before .before .before .before .before .before .before .before .before .before .before .before .before .before .pre .0 .0 .lined .short)
 
--- src/stretch.rt:161:9
 greater-requires : tie.Need-greater-requires Inv-loop μ-loop
-greater-requires c κs = ?
+greater-requires c κs = search needs
 
--- src/stretch.rt:157:5
 loop-less : tie.Need-loop-less Inv-loop μ-loop
-loop-less c = ?
+loop-less c = omega arith
 
--- src/stretch.rt:157:5
 loop-again : tie.Need-loop-again Inv-loop μ-loop
-loop-again c = ?
+loop-again c =
+    let w = c .before .before .before .before .before .before .before .before .before .before .before .before .before .before .before .pre .0 .0 .weighed in
+    let d = c .before .before .before .before .before .before .before .before .before .before .before .before .before .before .before .pre .0 .0 .low in
+    let h = stands (c .before .before .before .before .before .before .before .before .before .before .before .before .before .before .before .pre .0 .0 .lined) (c .before .before .before .before .before .before .before .before .before .before .before .before .before .before .before .pre .0 .1) (c .before .before .before .before .before .before .before .loop .k - 1) (omega (arith, c .before .before .before .before .before .before .before .loop .inv .1)) in
+    let x = c .before .before .before .before .before .moved .result in
+    let i = c .before .before .before .before .before .before .before .loop .inv in
+    let k = c .before .before .before .before .before .before .before .loop .k - 1 in (
+      omega (arith, c .before .before .before .before .before .before .loop-test .taken),
+      omega (arith, i .1),
+      omega (arith, i .1, c .before .before .before .before .before .before .loop-test .taken, c .before .before .tail-of .ensures (c .before .before .before .before .before .before .before .before .before .before .before .before .before .before .before .pre .0 .0 .problem) (w .tabled) (omega (arith, c .before .before .before .before .before .moved .ensures)) (d .tailed), rest-low w [] d (c .before .before .before .before .before .before .before .loop .next) x, span-all w x, i .2),
+      λ p order v l e held.
+          let t = c .before .before .tail-of .ensures p (v .tabled) (omega (arith, c .before .before .before .before .before .moved .ensures, stands e (c .before .before .before .before .before .before .before .before .before .before .before .before .before .before .before .pre .0 .1) k (omega (arith, i .1)))) (l .tailed) in
+          tails-again (i .3 p order v l e held) held (c .before .before .before .before .before .before .loop-test .taken) (i .1) x (getD (now (c .before .before .before .before .before .before .before .before .before .before .before .before .before .before .before .args .heads)) k 0) (getD (now (c .before .before .before .before .before .before .before .before .before .before .before .before .before .before .before .args .ends)) x 0 - getD (now (c .before .before .before .before .before .before .before .before .before .before .before .before .before .before .before .args .starts)) x 0 + c .before .before .tail-of .result) (c .greater .result) (c .before .before .before .before .before .moved .ensures) refl (ap (λ (z : ℕ). getD (now (c .before .before .before .before .before .before .before .before .before .before .before .before .before .before .before .args .ends)) x 0 - getD (now (c .before .before .before .before .before .before .before .before .before .before .before .before .before .before .before .args .starts)) x 0 + z) t) (c .greater .ensures),
+    )
 
--- src/stretch.rt:138:1
 returns : tie.Need-returns Inv-loop μ-loop
-returns c = ?
+returns c = λ p order v l e held. tails-all (c .before .loop .inv .3 p order v l e held) (omega arith) (c .before .loop .inv .0)
 
 pub longest-spec : {M : Type 1} → statement M
 longest-spec =
