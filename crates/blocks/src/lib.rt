@@ -1,2 +1,3 @@
 // Blocks of the critical path: their moves, the estimate of each, and the three that are tried.
+mod runs;
 mod stretch;
