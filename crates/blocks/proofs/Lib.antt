@@ -1,2 +1,3 @@
 pub mod StretchLaws
 pub mod RunLaws
+pub mod OfferLaws

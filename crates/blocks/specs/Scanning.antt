@@ -2,7 +2,7 @@
 use Prim.Native.Nat.{ℕ, suc, _+_, _-_, _^_, _≤_, _<_}
 use mathlib.Core.Path.{_≡_}
 use mathlib.Core.Bool.{Bool, cond}
-use mathlib.Core.List.{List, [], _∷_, _++_}
+use mathlib.Core.List.{List, [], _∷_, _++_, map}
 use lib.Dec.{ltb}
 use lib.ListN.{length, getD, drop}
 use Rattle.graph.specs.Counting.{Below, countOf}
@@ -12,7 +12,8 @@ use Rattle.moves.specs.Moves.{lineOf}
 use Rattle.moves.specs.declared.Move.{Move}
 use Rattle.moves.specs.declared.Move.the-variants.{Swap}
 use Rattle.ranking.specs.declared.Rated.{Rated}
-use Rattle.path.specs.Placing.{Placing}
+use Rattle.ranking.specs.Ranking.{withAll}
+use Rattle.path.specs.Placing.{Placing, placed}
 use Rattle.blocks.specs.Estimates.{estimate}
 use Rattle.blocks.specs.BlockMoves.{Block, block, blocksBy, closed, movesOf}
 use Rattle.blocks.specs.Weighing.{Weighed, Low, Lined}
@@ -62,6 +63,11 @@ pub record Rateable (p : Problem) (lines : Lines) (m : ℕ) (table starts ends t
   pub low : Low (p .n) tail
   pub lined : Lined (p .n) line
   pub held : lineOf lines m ≡ line
+
+-- The best three after moves on one machine's line were offered in turn to those before.
+pub record Offers (all : Bool) (m : ℕ) (moves : List Move) (table starts ends tail line : List ℕ) (before after : List Rated) : Type 0 where
+  pub kept : (p : Problem) (lines : Lines) (order : List ℕ) → Rateable p lines m table starts ends tail line
+      → after ≡ withAll before (map (offered all p lines (placed order starts ends) tail) moves)
 
 -- ---- the whole
 
