@@ -1,3 +1,5 @@
 pub mod StretchLaws
 pub mod RunLaws
 pub mod OfferLaws
+pub mod EveryLaws
+pub mod OnceLaws
