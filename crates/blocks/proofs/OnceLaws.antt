@@ -185,7 +185,7 @@ pub data Apart (machine position : ℕ → ℕ) : List ℕ → Type 0 where
   alone : Apart machine position []
   apart : {b : ℕ} {l : List ℕ} → Every (Clear machine position (machine b) (position b) (position b)) l → Apart machine position l → Apart machine position (b ∷ l)
 
-own-append : (xs ys : List Block) → ownMovesOfAll (xs ++ ys) ≡ ownMovesOfAll xs ++ ownMovesOfAll ys
+pub own-append : (xs ys : List Block) → ownMovesOfAll (xs ++ ys) ≡ ownMovesOfAll xs ++ ownMovesOfAll ys
 unfolding ownMovesOfAll
 own-append [] ys = refl
 own-append (b ∷ xs) ys =

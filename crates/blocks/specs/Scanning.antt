@@ -93,3 +93,8 @@ pub record Searched (p : Problem) (lines : Lines) (table starts ends tail path m
 pub record Searchable (lines : Lines) (table starts ends tail path machines places : List ℕ) : Type 0 where
   pub problem : Problem
   pub searched : Searched problem lines table starts ends tail path machines places
+
+-- The best three after moves on these lines were offered in turn to those before.
+pub record OffersAll (all : Bool) (moves : List Move) (lines : Lines) (table starts ends tail path machines places : List ℕ) (before after : List Rated) : Type 0 where
+  pub kept : (p : Problem) (order : List ℕ) → Searched p lines table starts ends tail path machines places
+      → after ≡ withAll before (map (offered all p lines (placed order starts ends) tail) moves)
