@@ -6,3 +6,6 @@ pub mod OnceLaws
 pub mod PathLaws
 pub mod KeepLaws
 pub mod BlockLaws
+pub mod FitLaws
+pub mod TimedLaws
+pub mod Worked

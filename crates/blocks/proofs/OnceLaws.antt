@@ -18,7 +18,7 @@ use Rattle.blocks.proofs.EveryLaws.{Every, none, also, every-append, ev
 
 -- ---- tests
 
-split : {A : Type 0} (t : Bool) → (t ≡ true → A) → (t ≡ false → A) → A
+pub split : {A : Type 0} (t : Bool) → (t ≡ true → A) → (t ≡ false → A) → A
 split true f g = f refl
 split false f g = g refl
 
@@ -96,7 +96,7 @@ once-again earlier x l e = rw (among-last x earlier e)
 
 -- ---- shifts
 
-every-shift : (P : Move → Type 0) (m to from count : ℕ) → ((i : ℕ) → from ≤ i → i < from + count → P (Shift m i to)) → Every P (shifts m to from count)
+pub every-shift : (P : Move → Type 0) (m to from count : ℕ) → ((i : ℕ) → from ≤ i → i < from + count → P (Shift m i to)) → Every P (shifts m to from count)
 unfolding shifts
 every-shift P m to from zero h = none
 every-shift P m to from (suc count) h =
@@ -208,17 +208,17 @@ closed-at m f l =
     (λ ne. rw (lt-ltb f l (omega arith), append-nil (ownMoves (block m f l))) (own-at m f l (omega arith)))
 
 module _ (machine position : ℕ → ℕ) where
-  goes-on : (m f l b : ℕ) (rest : List ℕ) → goesOn machine position (block m f l) b ≡ true
+  pub goes-on : (m f l b : ℕ) (rest : List ℕ) → goesOn machine position (block m f l) b ≡ true
       → blocksFrom machine position (block m f l) (b ∷ rest) ≡ blocksFrom machine position (block (machine b) f (position b)) rest
   unfolding blocksFrom
   goes-on m f l b rest e = rw e
 
-  ends-there : (m f l b : ℕ) (rest : List ℕ) → goesOn machine position (block m f l) b ≡ false
+  pub ends-there : (m f l b : ℕ) (rest : List ℕ) → goesOn machine position (block m f l) b ≡ false
       → blocksFrom machine position (block m f l) (b ∷ rest) ≡ closed (block m f l) ++ blocksFrom machine position (begun machine position b) rest
   unfolding blocksFrom
   ends-there m f l b rest e = rw e
 
-  at-end : (m f l : ℕ) → blocksFrom machine position (block m f l) [] ≡ closed (block m f l) ++ []
+  pub at-end : (m f l : ℕ) → blocksFrom machine position (block m f l) [] ≡ closed (block m f l) ++ []
   unfolding blocksFrom
   at-end m f l = sym (append-nil (closed (block m f l)))
 
