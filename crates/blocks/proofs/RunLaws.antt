@@ -102,9 +102,9 @@ module _ {machine position : ℕ → ℕ} {path : List ℕ} {i r : ℕ} (k : Ext
           one-machine = m;
           apart = omega (arith, q, k .apart, k .rising);
           left = k .left
-          ∙ ap (blocksFrom machine position (block (machine (getD path i 0)) (position (getD path i 0)) (position (getD path r 0)))) next
-          ∙ goes machine position (block (machine (getD path i 0)) (position (getD path i 0)) (position (getD path r 0))) (getD path (r + 1) 0) (drop (r + 1 + 1) path) e′
-          ∙ ap (λ (z : ℕ). blocksFrom machine position (block z (position (getD path i 0)) (position (getD path (r + 1) 0))) (drop (r + 1 + 1) path)) m;
+              ∙ ap (blocksFrom machine position (block (machine (getD path i 0)) (position (getD path i 0)) (position (getD path r 0)))) next
+              ∙ goes machine position (block (machine (getD path i 0)) (position (getD path i 0)) (position (getD path r 0))) (getD path (r + 1) 0) (drop (r + 1 + 1) path) e′
+              ∙ ap (λ (z : ℕ). blocksFrom machine position (block z (position (getD path i 0)) (position (getD path (r + 1) 0))) (drop (r + 1 + 1) path)) m;
         }
 
 -- ---- how many moves

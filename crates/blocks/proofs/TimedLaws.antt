@@ -50,6 +50,7 @@ walk-once n back rank falls (suc most) (To a) path k o =
         either a b
         (λ i. omega (arith, f, ap rank i))
         (λ ne. omega (arith, f, k a refl .1 b (omega (arith, hit-ne a b ne))))
+
     fresh : (b : ℕ) → hit a b + countOf b path ≤ 1
     fresh b =
         either a b

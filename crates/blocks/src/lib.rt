@@ -84,7 +84,19 @@ fn offer_blocks(
     while i < path.len() {
         let last = runs::block_end(path, i, machines, places);
         three = offer_run(
-            all, path, i, last, machines, places, cells, lens, table, starts, ends, tail, heads,
+            all,
+            path,
+            i,
+            last,
+            machines,
+            places,
+            cells,
+            lens,
+            table,
+            starts,
+            ends,
+            tail,
+            heads,
             three,
         );
         i = last + 1;
@@ -113,6 +125,16 @@ pub fn block_moves(
     let count = runs::count_moves(path, machines, places);
     let all = count <= 3;
     offer_blocks(
-        all, path, machines, places, cells, lens, table, starts, ends, tail, heads,
+        all,
+        path,
+        machines,
+        places,
+        cells,
+        lens,
+        table,
+        starts,
+        ends,
+        tail,
+        heads,
     )
 }

@@ -143,7 +143,17 @@ fn offer_shifts(
     let mut at = from;
     while at < end {
         best = offer_shift(
-            all, machine, at, to, line, table, starts, ends, tail, heads, best,
+            all,
+            machine,
+            at,
+            to,
+            line,
+            table,
+            starts,
+            ends,
+            tail,
+            heads,
+            best,
         );
         at += 1;
     }
@@ -168,7 +178,16 @@ pub fn offer_block(
     ensures { λ r. ⌜ Offers all machine (ownMoves (block machine first last)) (now (table .entry)) (now (starts .entry)) (now (ends .entry)) (now (tail .entry)) (now (line .entry)) (ranked three) (ranked r) × (r .count ≤ 3) ⌝ }
 {
     let swapped = offer_swap(
-        all, machine, first, line, table, starts, ends, tail, heads, three,
+        all,
+        machine,
+        first,
+        line,
+        table,
+        starts,
+        ends,
+        tail,
+        heads,
+        three,
     );
     let next = first + 1;
     if last <= next {
