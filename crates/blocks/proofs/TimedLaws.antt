@@ -91,7 +91,7 @@ module _ (p : Problem) (g : Genes) (ok : Accepted p g) (lines : Lines) (w : Well
         upright = f .upright;
         early = early;
         short = f .short;
-        released = λ a. omega (arith);
+        released = λ a. omega (arith, ok .release a);
       }
 
   timed-low : Low (p .n) (tails p lines (placed (timingOrder p lines) starts ends))
