@@ -80,6 +80,15 @@ module _ {all : Bool} {m : ℕ} {table starts ends tail line : List ℕ} where
       let g : from + (at - from) ≡ at = omega arith in
       rw (e, shifts-last m to from (at - from), g) (offers-then k one)
 
+  -- The shifts to the front and to the back, as the code counts them.
+  pub offers-ends : (f l : ℕ) {before mid after : List Rated} → f + 1 < l → Offers all m (shifts m f (f + 2) (l + 1 - (f + 2))) table starts ends tail line before mid
+      → Offers all m (shifts m l f (l - 1 - f)) table starts ends tail line mid after
+      → Offers all m (shifts m f (f + 2) (l - f - 1) ++ shifts m l f (l - f - 1)) table starts ends tail line before after
+  offers-ends f l h k j =
+      let a : l + 1 - (f + 2) ≡ l - f - 1 = omega arith in
+      let b : l - 1 - f ≡ l - f - 1 = omega arith in
+      offers-then (rw a at k) (rw b at j)
+
 -- ---- ranks
 
 module _ (all : Bool) {p : Problem} {lines : Lines} {m : ℕ} {table starts ends tail line : List ℕ} (r : Rateable p lines m table starts ends tail line)
@@ -104,8 +113,5 @@ pub own-pair : (m f l : ℕ) → l ≤ f + 1 → ownMoves (block m f l) ≡ Swap
 own-pair m f l h = rw (le-ltb (f + 1) l h)
 
 pub own-more : (m f l : ℕ) → f + 1 < l
-    → ownMoves (block m f l) ≡ (Swap m f ∷ []) ++ ((Swap m (l - 1) ∷ []) ++ (shifts m f (f + 2) (l + 1 - (f + 2)) ++ shifts m l f (l - 1 - f)))
-own-more m f l h =
-    let a : l + 1 - (f + 2) ≡ l - f - 1 = omega arith in
-    let b : l - 1 - f ≡ l - f - 1 = omega arith in
-    rw (lt-ltb (f + 1) l h, a, b)
+    → ownMoves (block m f l) ≡ (Swap m f ∷ []) ++ ((Swap m (l - 1) ∷ []) ++ (shifts m f (f + 2) (l - f - 1) ++ shifts m l f (l - f - 1)))
+own-more m f l h = rw (lt-ltb (f + 1) l h)

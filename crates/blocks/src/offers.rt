@@ -1,7 +1,7 @@
 // The moves of a block, each offered with its estimate to the best three so far.
 ghost use mathlib.Core.Path.{_≡_};
 ghost use mathlib.Core.Bool.{cond};
-ghost use mathlib.Core.List.{List, [], _∷_};
+ghost use mathlib.Core.List.{List, [], _∷_, _++_};
 ghost use Prim.Native.Nat.{ℕ, _+_, _-_, _<_, _≤_, max, min};
 ghost use lib.ListN.{length};
 ghost use Rattle.plan.specs.Problem.{Problem};
@@ -73,7 +73,7 @@ fn weigh(
 // The swap of a position with the next is offered.
 fn offer_swap(
     all: bool,
-    machine: usize,
+    m: usize,
     at: usize,
     line: &[usize],
     table: &[usize],
@@ -84,13 +84,13 @@ fn offer_swap(
     three: Three,
 ) -> Three
     requires { ⌜ Estimable (now table) (now starts) (now ends) (now tail) (now line) × (at + 1 < length (now line)) × (length (now line) ≤ length (now heads)) × (three .count ≤ 3) ⌝ }
-    ensures { λ r. ⌜ Offers all machine (Swap machine at ∷ []) (now (table .entry)) (now (starts .entry)) (now (ends .entry)) (now (tail .entry)) (now (line .entry)) (ranked three) (ranked r) × (r .count ≤ 3) ⌝ }
+    ensures { λ r. ⌜ Offers all m (Swap m at ∷ []) (now (table .entry)) (now (starts .entry)) (now (ends .entry)) (now (tail .entry)) (now (line .entry)) (ranked three) (ranked r) × (r .count ≤ 3) ⌝ }
 {
     let length = weigh(all, line, at, at + 1, table, starts, ends, tail, heads);
     let rated = Rated {
         length,
         time: 0,
-        made: Move::Swap(machine, at),
+        made: Move::Swap(m, at),
     };
     ranking::keep(three, rated)
 }
@@ -98,7 +98,7 @@ fn offer_swap(
 // The shift from a position to another is offered.
 fn offer_shift(
     all: bool,
-    machine: usize,
+    m: usize,
     from: usize,
     to: usize,
     line: &[usize],
@@ -110,13 +110,13 @@ fn offer_shift(
     three: Three,
 ) -> Three
     requires { ⌜ Estimable (now table) (now starts) (now ends) (now tail) (now line) × (from < length (now line)) × (to < length (now line)) × (length (now line) ≤ length (now heads)) × (three .count ≤ 3) ⌝ }
-    ensures { λ r. ⌜ Offers all machine (Shift machine from to ∷ []) (now (table .entry)) (now (starts .entry)) (now (ends .entry)) (now (tail .entry)) (now (line .entry)) (ranked three) (ranked r) × (r .count ≤ 3) ⌝ }
+    ensures { λ r. ⌜ Offers all m (Shift m from to ∷ []) (now (table .entry)) (now (starts .entry)) (now (ends .entry)) (now (tail .entry)) (now (line .entry)) (ranked three) (ranked r) × (r .count ≤ 3) ⌝ }
 {
     let length = weigh(all, line, from, to, table, starts, ends, tail, heads);
     let rated = Rated {
         length,
         time: 0,
-        made: Move::Shift(machine, from, to),
+        made: Move::Shift(m, from, to),
     };
     ranking::keep(three, rated)
 }
@@ -124,7 +124,7 @@ fn offer_shift(
 // The shifts to one position are offered, from each of others in turn.
 fn offer_shifts(
     all: bool,
-    machine: usize,
+    m: usize,
     to: usize,
     from: usize,
     end: usize,
@@ -137,33 +137,71 @@ fn offer_shifts(
     three: Three,
 ) -> Three
     requires { ⌜ Estimable (now table) (now starts) (now ends) (now tail) (now line) × (to < length (now line)) × (from ≤ end) × (end ≤ length (now line)) × (length (now line) ≤ length (now heads)) × (three .count ≤ 3) ⌝ }
-    ensures { λ r. ⌜ Offers all machine (shifts machine to from (end - from)) (now (table .entry)) (now (starts .entry)) (now (ends .entry)) (now (tail .entry)) (now (line .entry)) (ranked three) (ranked r) × (r .count ≤ 3) ⌝ }
+    ensures { λ r. ⌜ Offers all m (shifts m to from (end - from)) (now (table .entry)) (now (starts .entry)) (now (ends .entry)) (now (tail .entry)) (now (line .entry)) (ranked three) (ranked r) × (r .count ≤ 3) ⌝ }
 {
     let mut best = three;
     let mut at = from;
     while at < end {
-        best = offer_shift(
-            all,
-            machine,
-            at,
-            to,
-            line,
-            table,
-            starts,
-            ends,
-            tail,
-            heads,
-            best,
-        );
+        best = offer_shift(all, m, at, to, line, table, starts, ends, tail, heads, best);
         at += 1;
     }
     best
 }
 
-// The moves of a block are offered: positions first..last of a line.
+// The shifts of a block of three or more are offered: to its front, then to its back.
+fn offer_ends(
+    all: bool,
+    m: usize,
+    first: usize,
+    last: usize,
+    line: &[usize],
+    table: &[usize],
+    starts: &[u64],
+    ends: &[u64],
+    tail: &[u64],
+    heads: &mut [u64],
+    three: Three,
+) -> Three
+    requires { ⌜ Estimable (now table) (now starts) (now ends) (now tail) (now line) × (first + 1 < last) × (last < length (now line)) × (length (now line) ≤ length (now heads)) × (three .count ≤ 3) ⌝ }
+    ensures { λ r. ⌜ Offers all m (shifts m first (first + 2) (last - first - 1) ++ shifts m last first (last - first - 1)) (now (table .entry)) (now (starts .entry)) (now (ends .entry)) (now (tail .entry)) (now (line .entry)) (ranked three) (ranked r) × (r .count ≤ 3) ⌝ }
+{
+    let third = first + 2;
+    let behind = last + 1;
+    let to_front = offer_shifts(
+        all,
+        m,
+        first,
+        third,
+        behind,
+        line,
+        table,
+        starts,
+        ends,
+        tail,
+        heads,
+        three,
+    );
+    let end = last - 1;
+    offer_shifts(
+        all,
+        m,
+        last,
+        first,
+        end,
+        line,
+        table,
+        starts,
+        ends,
+        tail,
+        heads,
+        to_front,
+    )
+}
+
+// The moves of a block are offered: positions first..last of machine m's line. The two swaps of a block of two are one move.
 pub fn offer_block(
     all: bool,
-    machine: usize,
+    m: usize,
     first: usize,
     last: usize,
     line: &[usize],
@@ -175,62 +213,26 @@ pub fn offer_block(
     three: Three,
 ) -> Three
     requires { ⌜ Estimable (now table) (now starts) (now ends) (now tail) (now line) × (first < last) × (last < length (now line)) × (length (now line) ≤ length (now heads)) × (three .count ≤ 3) ⌝ }
-    ensures { λ r. ⌜ Offers all machine (ownMoves (block machine first last)) (now (table .entry)) (now (starts .entry)) (now (ends .entry)) (now (tail .entry)) (now (line .entry)) (ranked three) (ranked r) × (r .count ≤ 3) ⌝ }
+    ensures { λ r. ⌜ Offers all m (ownMoves (block m first last)) (now (table .entry)) (now (starts .entry)) (now (ends .entry)) (now (tail .entry)) (now (line .entry)) (ranked three) (ranked r) × (r .count ≤ 3) ⌝ }
 {
-    let swapped = offer_swap(
-        all,
-        machine,
-        first,
-        line,
-        table,
-        starts,
-        ends,
-        tail,
-        heads,
-        three,
-    );
+    let one = offer_swap(all, m, first, line, table, starts, ends, tail, heads, three);
     let next = first + 1;
     if last <= next {
-        return swapped;
+        return one;
     }
-    let last_swapped = offer_swap(
+    let at = last - 1;
+    let two = offer_swap(all, m, at, line, table, starts, ends, tail, heads, one);
+    offer_ends(
         all,
-        machine,
-        last - 1,
-        line,
-        table,
-        starts,
-        ends,
-        tail,
-        heads,
-        swapped,
-    );
-    let to_front = offer_shifts(
-        all,
-        machine,
+        m,
         first,
-        first + 2,
-        last + 1,
-        line,
-        table,
-        starts,
-        ends,
-        tail,
-        heads,
-        last_swapped,
-    );
-    offer_shifts(
-        all,
-        machine,
         last,
-        first,
-        last - 1,
         line,
         table,
         starts,
         ends,
         tail,
         heads,
-        to_front,
+        two,
     )
 }

@@ -146,12 +146,12 @@ fn longest(
 {
     let mut next = after_at(line, starts, ends, tail, last + 1);
     let mut most: u64 = 0;
-    let mut k = last + 1;
-    while first < k {
-        k -= 1;
-        let x = moves::moved(line, from, to, k);
+    let mut at = last + 1;
+    while first < at {
+        at -= 1;
+        let x = moves::moved(line, from, to, at);
         let rest = ends[x] - starts[x] + tail_of(table, starts, ends, tail, next, x);
-        most = greater(most, heads[k] + rest);
+        most = greater(most, heads[at] + rest);
         next = rest;
     }
     most

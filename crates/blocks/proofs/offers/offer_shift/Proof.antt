@@ -20,7 +20,7 @@ same-length c = search needs
 returns : tie.Need-returns
 returns c =
     let a = c .before .before .before .before .before .before .before .before .before .before .before .args in
-    (offers-one (Shift (a .machine) (a .from) (a .to)) (record { length = c .before .before .before .weigh .result; time = 0; made = Shift (a .machine) (a .from) (a .to) }) (λ p lines order r. shift-rank (a .all) r order (a .from) (a .to) (c .before .before .before .weigh .result) (c .before .before .before .weigh .ensures p order (r .weighed) (r .low) (r .lined))) (c .keep .ensures .0), c .keep .ensures .1)
+    (offers-one (Shift (a .m) (a .from) (a .to)) (record { length = c .before .before .before .weigh .result; time = 0; made = Shift (a .m) (a .from) (a .to) }) (λ p lines order r. shift-rank (a .all) r order (a .from) (a .to) (c .before .before .before .weigh .result) (c .before .before .before .weigh .ensures p order (r .weighed) (r .low) (r .lined))) (c .keep .ensures .0), c .keep .ensures .1)
 
 pub offer-shift-spec : {M : Type 1} → statement M
 offer-shift-spec = tie.close (tie.spec weigh-requires keep-requires same-length returns)

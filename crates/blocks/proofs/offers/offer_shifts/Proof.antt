@@ -12,15 +12,15 @@ use Rattle.blocks.proofs.offers.offer_shifts.Statement.{statement}
 use Rattle.blocks.proofs.offers.offer_shifts.Tie as tie
 
 abbrev Inv-loop : tie.InvT-loop
-Inv-loop all machine to from end line table starts ends tail heads₀ best₀ at₀ heads best at =
+Inv-loop all m to from end line table starts ends tail heads₀ best₀ at₀ heads best at =
     (from ≤ at)
     × (at ≤ end)
     × (length heads ≡ length heads₀)
     × (best .count ≤ 3)
-    × Offers all machine (shifts machine to from (at - from)) table starts ends tail line (ranked best₀) (ranked best)
+    × Offers all m (shifts m to from (at - from)) table starts ends tail line (ranked best₀) (ranked best)
 
 abbrev μ-loop : tie.MeasureT-loop
-μ-loop all machine to from end line table starts ends tail heads₀ best₀ at₀ heads best at =
+μ-loop all m to from end line table starts ends tail heads₀ best₀ at₀ heads best at =
     end - at
 
 loop-holds : tie.Need-loop-holds Inv-loop μ-loop

@@ -23,7 +23,7 @@ same-length c = search needs
 returns : tie.Need-returns
 returns c =
     let a = c .before .before .before .before .before .before .before .before .before .before .before .args in
-    (offers-one (Swap (a .machine) (a .at)) (record { length = c .before .before .before .weigh .result; time = 0; made = Swap (a .machine) (a .at) }) (λ p lines order r. swap-rank (a .all) r order (a .at) (c .before .before .before .weigh .result) (c .before .before .before .before .before .before .before .before .before .before .before .pre .1) (c .before .before .before .weigh .ensures p order (r .weighed) (r .low) (r .lined))) (c .keep .ensures .0), c .keep .ensures .1)
+    (offers-one (Swap (a .m) (a .at)) (record { length = c .before .before .before .weigh .result; time = 0; made = Swap (a .m) (a .at) }) (λ p lines order r. swap-rank (a .all) r order (a .at) (c .before .before .before .weigh .result) (c .before .before .before .before .before .before .before .before .before .before .before .pre .1) (c .before .before .before .weigh .ensures p order (r .weighed) (r .low) (r .lined))) (c .keep .ensures .0), c .keep .ensures .1)
 
 pub offer-swap-spec : {M : Type 1} → statement M
 offer-swap-spec = tie.close (tie.spec add-weigh weigh-requires keep-requires same-length returns)

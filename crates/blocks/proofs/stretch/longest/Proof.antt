@@ -18,15 +18,15 @@ use Rattle.blocks.proofs.stretch.longest.Statement.{statement}
 use Rattle.blocks.proofs.stretch.longest.Tie as tie
 
 abbrev Inv-loop : tie.InvT-loop
-Inv-loop line from to first last table starts ends tail heads next₀ most₀ k₀ next most k =
-    (first ≤ k)
-    × (k ≤ last + 1)
-    × (next ≤ 2 ^ 42 + (last + 1 - k) * 2 ^ 34)
-    × ((p : Problem) (order : List ℕ) → Weighed p table starts ends → Low (p .n) tail → Lined (p .n) line → HeadsHeld p (placed order starts ends) (shifted line from to) (endBefore ends line first) first last heads → Passing p (placed order starts ends) tail (shifted line from to) (endBefore ends line first) (afterAt (placed order starts ends) tail line (last + 1)) first last next most k)
+Inv-loop line from to first last table starts ends tail heads next₀ most₀ at₀ next most at =
+    (first ≤ at)
+    × (at ≤ last + 1)
+    × (next ≤ 2 ^ 42 + (last + 1 - at) * 2 ^ 34)
+    × ((p : Problem) (order : List ℕ) → Weighed p table starts ends → Low (p .n) tail → Lined (p .n) line → HeadsHeld p (placed order starts ends) (shifted line from to) (endBefore ends line first) first last heads → Passing p (placed order starts ends) tail (shifted line from to) (endBefore ends line first) (afterAt (placed order starts ends) tail line (last + 1)) first last next most at)
 
 abbrev μ-loop : tie.MeasureT-loop
-μ-loop line from to first last table starts ends tail heads next₀ most₀ k₀ next most k =
-    k
+μ-loop line from to first last table starts ends tail heads next₀ most₀ at₀ next most at =
+    at
 
 add-after-at : tie.Need-add-after-at Inv-loop μ-loop
 add-after-at c = omega (arith, c .before .before .before .before .before .before .pre .0 .1 .within, c .before .before .before .before .before .before .pre .0 .0 .lined .short)
@@ -35,67 +35,68 @@ after-at-requires : tie.Need-after-at-requires Inv-loop μ-loop
 after-at-requires c κs =
     let d = c .before .before .before .before .before .before .pre .0 .0 .low in (rw (d .tailed) (c .before .before .before .before .before .before .pre .0 .0 .lined .standing), addable (c .before .before .before .before .before .before .pre .0 .0 .weighed) d)
 
-add-k : tie.Need-add-k Inv-loop μ-loop
-add-k c = omega (arith, c .before .before .before .before .before .before .before .pre .0 .1 .within, c .before .before .before .before .before .before .before .pre .0 .0 .lined .short)
+add-at : tie.Need-add-at Inv-loop μ-loop
+add-at c = omega (arith, c .before .before .before .before .before .before .before .pre .0 .1 .within, c .before .before .before .before .before .before .before .pre .0 .0 .lined .short)
 
 loop-holds : tie.Need-loop-holds Inv-loop μ-loop
 loop-holds c =
     let r = c .before .before .before .before .before .before .before .pre .0 .1 in
     (omega (arith, r .rising), omega arith, omega (arith, c .after-at .ensures [], after-at-low (c .before .before .before .before .before .before .before .pre .0 .0 .weighed) [] (c .before .before .before .before .before .before .before .pre .0 .0 .low) (now (c .before .before .before .before .before .before .before .args .line)) (c .before .before .before .before .before .before .before .args .last + 1)), λ p order v l e held. tails-begin (c .after-at .ensures order))
 
-sub-k : tie.Need-sub-k Inv-loop μ-loop
-sub-k c = omega arith
+sub-at : tie.Need-sub-at Inv-loop μ-loop
+sub-at c = omega arith
 
 moved-requires : tie.Need-moved-requires Inv-loop μ-loop
-moved-requires c κs = (c .before .before .before .before .before .before .before .before .before .pre .0 .1 .leaves, c .before .before .before .before .before .before .before .before .before .pre .0 .1 .enters, omega (arith, c .before .before .before .before .before .before .before .before .before .pre .0 .1 .within, c .before .loop .inv .1))
+moved-requires c κs =
+    (omega (arith, c .before .before .before .before .before .before .before .before .before .pre .0 .1 .leaves), omega (arith, c .before .before .before .before .before .before .before .before .before .pre .0 .1 .enters), omega (arith, c .before .before .before .before .before .before .before .before .before .pre .0 .1 .within, c .before .loop .inv .1))
 
 mul-rest : tie.Need-mul-rest Inv-loop μ-loop
 mul-rest c =
     let w = c .before .before .before .before .before .before .before .before .before .before .pre .0 .0 .weighed in
     let d = c .before .before .before .before .before .before .before .before .before .before .pre .0 .0 .low in
-    let h = stands (c .before .before .before .before .before .before .before .before .before .before .pre .0 .0 .lined) (c .before .before .before .before .before .before .before .before .before .before .pre .0 .1) (c .before .before .loop .k - 1) (omega (arith, c .before .before .loop .inv .1)) in
+    let h = stands (c .before .before .before .before .before .before .before .before .before .before .pre .0 .0 .lined) (c .before .before .before .before .before .before .before .before .before .before .pre .0 .1) (c .before .before .loop .at - 1) (omega (arith, c .before .before .loop .inv .1)) in
     omega (arith, c .moved .ensures, w .started, w .ended)
 
 shared-slice-read-rest : tie.Need-shared-slice-read-rest Inv-loop μ-loop
 shared-slice-read-rest c =
     let w = c .before .before .before .before .before .before .before .before .before .before .before .pre .0 .0 .weighed in
     let d = c .before .before .before .before .before .before .before .before .before .before .before .pre .0 .0 .low in
-    let h = stands (c .before .before .before .before .before .before .before .before .before .before .before .pre .0 .0 .lined) (c .before .before .before .before .before .before .before .before .before .before .before .pre .0 .1) (c .before .before .before .loop .k - 1) (omega (arith, c .before .before .before .loop .inv .1)) in
+    let h = stands (c .before .before .before .before .before .before .before .before .before .before .before .pre .0 .0 .lined) (c .before .before .before .before .before .before .before .before .before .before .before .pre .0 .1) (c .before .before .before .loop .at - 1) (omega (arith, c .before .before .before .loop .inv .1)) in
     omega (arith, c .before .moved .ensures, w .started, w .ended)
 
 mul-rest-2 : tie.Need-mul-rest-2 Inv-loop μ-loop
 mul-rest-2 c =
     let w = c .before .before .before .before .before .before .before .before .before .before .before .pre .0 .0 .weighed in
     let d = c .before .before .before .before .before .before .before .before .before .before .before .pre .0 .0 .low in
-    let h = stands (c .before .before .before .before .before .before .before .before .before .before .before .pre .0 .0 .lined) (c .before .before .before .before .before .before .before .before .before .before .before .pre .0 .1) (c .before .before .before .loop .k - 1) (omega (arith, c .before .before .before .loop .inv .1)) in
+    let h = stands (c .before .before .before .before .before .before .before .before .before .before .before .pre .0 .0 .lined) (c .before .before .before .before .before .before .before .before .before .before .before .pre .0 .1) (c .before .before .before .loop .at - 1) (omega (arith, c .before .before .before .loop .inv .1)) in
     omega (arith, c .before .moved .ensures, w .started, w .ended)
 
 shared-slice-read-rest-2 : tie.Need-shared-slice-read-rest-2 Inv-loop μ-loop
 shared-slice-read-rest-2 c =
     let w = c .before .before .before .before .before .before .before .before .before .before .before .before .pre .0 .0 .weighed in
     let d = c .before .before .before .before .before .before .before .before .before .before .before .before .pre .0 .0 .low in
-    let h = stands (c .before .before .before .before .before .before .before .before .before .before .before .before .pre .0 .0 .lined) (c .before .before .before .before .before .before .before .before .before .before .before .before .pre .0 .1) (c .before .before .before .before .loop .k - 1) (omega (arith, c .before .before .before .before .loop .inv .1)) in
+    let h = stands (c .before .before .before .before .before .before .before .before .before .before .before .before .pre .0 .0 .lined) (c .before .before .before .before .before .before .before .before .before .before .before .before .pre .0 .1) (c .before .before .before .before .loop .at - 1) (omega (arith, c .before .before .before .before .loop .inv .1)) in
     omega (arith, c .before .before .moved .ensures, w .started, w .ended)
 
 sub-rest : tie.Need-sub-rest Inv-loop μ-loop
 sub-rest c =
     let w = c .before .before .before .before .before .before .before .before .before .before .before .before .pre .0 .0 .weighed in
     let d = c .before .before .before .before .before .before .before .before .before .before .before .before .pre .0 .0 .low in
-    let h = stands (c .before .before .before .before .before .before .before .before .before .before .before .before .pre .0 .0 .lined) (c .before .before .before .before .before .before .before .before .before .before .before .before .pre .0 .1) (c .before .before .before .before .loop .k - 1) (omega (arith, c .before .before .before .before .loop .inv .1)) in
+    let h = stands (c .before .before .before .before .before .before .before .before .before .before .before .before .pre .0 .0 .lined) (c .before .before .before .before .before .before .before .before .before .before .before .before .pre .0 .1) (c .before .before .before .before .loop .at - 1) (omega (arith, c .before .before .before .before .loop .inv .1)) in
     omega (arith, w .upright (c .before .before .moved .result) (omega (arith, c .before .before .moved .ensures)))
 
 tail-of-requires : tie.Need-tail-of-requires Inv-loop μ-loop
 tail-of-requires c κs =
     let w = c .before .before .before .before .before .before .before .before .before .before .before .before .pre .0 .0 .weighed in
     let d = c .before .before .before .before .before .before .before .before .before .before .before .before .pre .0 .0 .low in
-    let h = stands (c .before .before .before .before .before .before .before .before .before .before .before .before .pre .0 .0 .lined) (c .before .before .before .before .before .before .before .before .before .before .before .before .pre .0 .1) (c .before .before .before .before .loop .k - 1) (omega (arith, c .before .before .before .before .loop .inv .1)) in
+    let h = stands (c .before .before .before .before .before .before .before .before .before .before .before .before .pre .0 .0 .lined) (c .before .before .before .before .before .before .before .before .before .before .before .before .pre .0 .1) (c .before .before .before .before .loop .at - 1) (omega (arith, c .before .before .before .before .loop .inv .1)) in
     (tailable w d (c .before .before .moved .result) (omega (arith, c .before .before .moved .ensures)), addable w d)
 
 add-rest : tie.Need-add-rest Inv-loop μ-loop
 add-rest c =
     let w = c .before .before .before .before .before .before .before .before .before .before .before .before .before .pre .0 .0 .weighed in
     let d = c .before .before .before .before .before .before .before .before .before .before .before .before .before .pre .0 .0 .low in
-    let h = stands (c .before .before .before .before .before .before .before .before .before .before .before .before .before .pre .0 .0 .lined) (c .before .before .before .before .before .before .before .before .before .before .before .before .before .pre .0 .1) (c .before .before .before .before .before .loop .k - 1) (omega (arith, c .before .before .before .before .before .loop .inv .1)) in
+    let h = stands (c .before .before .before .before .before .before .before .before .before .before .before .before .before .pre .0 .0 .lined) (c .before .before .before .before .before .before .before .before .before .before .before .before .before .pre .0 .1) (c .before .before .before .before .before .loop .at - 1) (omega (arith, c .before .before .before .before .before .loop .inv .1)) in
     let x = c .before .before .before .moved .result in
     omega (arith, c .tail-of .ensures (c .before .before .before .before .before .before .before .before .before .before .before .before .before .pre .0 .0 .problem) (w .tabled) (omega (arith, c .before .before .before .moved .ensures)) (d .tailed), rest-low w [] d (c .before .before .before .before .before .loop .next) x, span-all w x, c .before .before .before .before .before .loop .inv .2, c .before .before .before .before .before .before .before .before .before .before .before .before .before .pre .0 .1 .within, c .before .before .before .before .before .before .before .before .before .before .before .before .before .pre .0 .0 .lined .short)
 
@@ -109,9 +110,9 @@ add-greater : tie.Need-add-greater Inv-loop μ-loop
 add-greater c =
     let w = c .before .before .before .before .before .before .before .before .before .before .before .before .before .before .pre .0 .0 .weighed in
     let d = c .before .before .before .before .before .before .before .before .before .before .before .before .before .before .pre .0 .0 .low in
-    let h = stands (c .before .before .before .before .before .before .before .before .before .before .before .before .before .before .pre .0 .0 .lined) (c .before .before .before .before .before .before .before .before .before .before .before .before .before .before .pre .0 .1) (c .before .before .before .before .before .before .loop .k - 1) (omega (arith, c .before .before .before .before .before .before .loop .inv .1)) in
+    let h = stands (c .before .before .before .before .before .before .before .before .before .before .before .before .before .before .pre .0 .0 .lined) (c .before .before .before .before .before .before .before .before .before .before .before .before .before .before .pre .0 .1) (c .before .before .before .before .before .before .loop .at - 1) (omega (arith, c .before .before .before .before .before .before .loop .inv .1)) in
     let x = c .before .before .before .before .moved .result in
-    let k = c .before .before .before .before .before .before .loop .k - 1 in
+    let k = c .before .before .before .before .before .before .loop .at - 1 in
     let f = c .before .before .before .before .before .before .before .before .before .before .before .before .before .before .args .first in
     let e : f + (k - f) ≡ k = omega (arith, c .before .before .before .before .before .loop-test .taken) in
     omega (arith, ap (λ i. getD (now (c .before .before .before .before .before .before .before .before .before .before .before .before .before .before .args .heads)) i 0) e, c .before .before .before .before .before .before .before .before .before .before .before .before .before .before .pre .1 (k - f) (omega (arith, c .before .before .before .before .before .before .loop .inv .1)), c .before .tail-of .ensures (c .before .before .before .before .before .before .before .before .before .before .before .before .before .before .pre .0 .0 .problem) (w .tabled) (omega (arith, c .before .before .before .before .moved .ensures)) (d .tailed), rest-low w [] d (c .before .before .before .before .before .before .loop .next) x, span-all w x, c .before .before .before .before .before .before .loop .inv .2, c .before .before .before .before .before .before .before .before .before .before .before .before .before .before .pre .0 .1 .within, c .before .before .before .before .before .before .before .before .before .before .before .before .before .before .pre .0 .0 .lined .short)
@@ -126,10 +127,10 @@ loop-again : tie.Need-loop-again Inv-loop μ-loop
 loop-again c =
     let w = c .before .before .before .before .before .before .before .before .before .before .before .before .before .before .before .pre .0 .0 .weighed in
     let d = c .before .before .before .before .before .before .before .before .before .before .before .before .before .before .before .pre .0 .0 .low in
-    let h = stands (c .before .before .before .before .before .before .before .before .before .before .before .before .before .before .before .pre .0 .0 .lined) (c .before .before .before .before .before .before .before .before .before .before .before .before .before .before .before .pre .0 .1) (c .before .before .before .before .before .before .before .loop .k - 1) (omega (arith, c .before .before .before .before .before .before .before .loop .inv .1)) in
+    let h = stands (c .before .before .before .before .before .before .before .before .before .before .before .before .before .before .before .pre .0 .0 .lined) (c .before .before .before .before .before .before .before .before .before .before .before .before .before .before .before .pre .0 .1) (c .before .before .before .before .before .before .before .loop .at - 1) (omega (arith, c .before .before .before .before .before .before .before .loop .inv .1)) in
     let x = c .before .before .before .before .before .moved .result in
     let i = c .before .before .before .before .before .before .before .loop .inv in
-    let k = c .before .before .before .before .before .before .before .loop .k - 1 in (
+    let k = c .before .before .before .before .before .before .before .loop .at - 1 in (
       omega (arith, c .before .before .before .before .before .before .loop-test .taken),
       omega (arith, i .1),
       omega (arith, i .1, c .before .before .before .before .before .before .loop-test .taken, c .before .before .tail-of .ensures (c .before .before .before .before .before .before .before .before .before .before .before .before .before .before .before .pre .0 .0 .problem) (w .tabled) (omega (arith, c .before .before .before .before .before .moved .ensures)) (d .tailed), rest-low w [] d (c .before .before .before .before .before .before .before .loop .next) x, span-all w x, i .2),
@@ -149,9 +150,9 @@ longest-spec =
     μ-loop
     add-after-at
     after-at-requires
-    add-k
+    add-at
     loop-holds
-    sub-k
+    sub-at
     moved-requires
     mul-rest
     shared-slice-read-rest
