@@ -18,7 +18,7 @@ same-length c = c .before .before .before .offer-swap .kept .1 .1 .1 .1 .1 .1 .1
 
 returns : tie.Need-returns
 returns c =
-    let a = c .before .before .before .before .before .before .before .before .before .before .before .args in (rw (own-pair (a .m) (a .first) (a .last) (c .if1 .taken)) (c .before .before .before .offer-swap .ensures .0), c .before .before .before .offer-swap .ensures .1)
+    let a = c .before .before .before .before .before .before .before .before .before .before .before .args in (rw (own-pair (a .m) (a .first) (a .last) (omega (arith, c .if1 .taken))) (c .before .before .before .offer-swap .ensures .0), c .before .before .before .offer-swap .ensures .1)
 
 sub-at : tie.Need-sub-at
 sub-at c = omega (arith, c .before .before .before .before .before .before .before .before .before .before .before .pre .1)
