@@ -21,8 +21,8 @@ abbrev Inv-loop : tie.InvT-loop
 Inv-loop line from to first last table starts ends tail heads next₀ most₀ at₀ next most at =
     (first ≤ at)
     × (at ≤ last + 1)
-    × (next ≤ 2 ^ 42 + (last + 1 - at) * 2 ^ 34)
     × ((p : Problem) (order : List ℕ) → Weighed p table starts ends → Low (p .n) tail → Lined (p .n) line → HeadsHeld p (placed order starts ends) (shifted line from to) (endBefore ends line first) first last heads → Passing p (placed order starts ends) tail (shifted line from to) (endBefore ends line first) (afterAt (placed order starts ends) tail line (last + 1)) first last next most at)
+    × (next ≤ 2 ^ 42 + (last + 1 - at) * 2 ^ 34)
 
 abbrev μ-loop : tie.MeasureT-loop
 μ-loop line from to first last table starts ends tail heads next₀ most₀ at₀ next most at =
@@ -41,7 +41,7 @@ add-at c = omega (arith, c .before .before .before .before .before .before .befo
 loop-holds : tie.Need-loop-holds Inv-loop μ-loop
 loop-holds c =
     let r = c .before .before .before .before .before .before .before .pre .0 .1 in
-    (omega (arith, r .rising), omega arith, omega (arith, c .after-at .ensures [], after-at-low (c .before .before .before .before .before .before .before .pre .0 .0 .weighed) [] (c .before .before .before .before .before .before .before .pre .0 .0 .low) (now (c .before .before .before .before .before .before .before .args .line)) (c .before .before .before .before .before .before .before .args .last + 1)), λ p order v l e held. tails-begin (c .after-at .ensures order))
+    (omega (arith, r .rising), omega arith, λ p order v l e held. tails-begin (c .after-at .ensures order), omega (arith, c .after-at .ensures [], after-at-low (c .before .before .before .before .before .before .before .pre .0 .0 .weighed) [] (c .before .before .before .before .before .before .before .pre .0 .0 .low) (now (c .before .before .before .before .before .before .before .args .line)) (c .before .before .before .before .before .before .before .args .last + 1)))
 
 sub-at : tie.Need-sub-at Inv-loop μ-loop
 sub-at c = omega arith
@@ -98,7 +98,7 @@ add-rest c =
     let d = c .before .before .before .before .before .before .before .before .before .before .before .before .before .pre .0 .0 .low in
     let h = stands (c .before .before .before .before .before .before .before .before .before .before .before .before .before .pre .0 .0 .lined) (c .before .before .before .before .before .before .before .before .before .before .before .before .before .pre .0 .1) (c .before .before .before .before .before .loop .at - 1) (omega (arith, c .before .before .before .before .before .loop .inv .1)) in
     let x = c .before .before .before .moved .result in
-    omega (arith, c .tail-of .ensures (c .before .before .before .before .before .before .before .before .before .before .before .before .before .pre .0 .0 .problem) (w .tabled) (omega (arith, c .before .before .before .moved .ensures)) (d .tailed), rest-low w [] d (c .before .before .before .before .before .loop .next) x, span-all w x, c .before .before .before .before .before .loop .inv .2, c .before .before .before .before .before .before .before .before .before .before .before .before .before .pre .0 .1 .within, c .before .before .before .before .before .before .before .before .before .before .before .before .before .pre .0 .0 .lined .short)
+    omega (arith, c .tail-of .ensures (c .before .before .before .before .before .before .before .before .before .before .before .before .before .pre .0 .0 .problem) (w .tabled) (omega (arith, c .before .before .before .moved .ensures)) (d .tailed), rest-low w [] d (c .before .before .before .before .before .loop .next) x, span-all w x, c .before .before .before .before .before .loop .inv .3, c .before .before .before .before .before .before .before .before .before .before .before .before .before .pre .0 .1 .within, c .before .before .before .before .before .before .before .before .before .before .before .before .before .pre .0 .0 .lined .short)
 
 mul-greater : tie.Need-mul-greater Inv-loop μ-loop
 mul-greater c = omega (arith, c .before .before .before .before .before .before .before .before .before .before .before .before .before .pre .0 .1 .within, c .before .before .before .before .before .before .before .before .before .before .before .before .before .pre .0 .2, c .before .before .before .before .before .loop .inv .1)
@@ -115,7 +115,7 @@ add-greater c =
     let k = c .before .before .before .before .before .before .loop .at - 1 in
     let f = c .before .before .before .before .before .before .before .before .before .before .before .before .before .before .args .first in
     let e : f + (k - f) ≡ k = omega (arith, c .before .before .before .before .before .loop-test .taken) in
-    omega (arith, ap (λ i. getD (now (c .before .before .before .before .before .before .before .before .before .before .before .before .before .before .args .heads)) i 0) e, c .before .before .before .before .before .before .before .before .before .before .before .before .before .before .pre .1 (k - f) (omega (arith, c .before .before .before .before .before .before .loop .inv .1)), c .before .tail-of .ensures (c .before .before .before .before .before .before .before .before .before .before .before .before .before .before .pre .0 .0 .problem) (w .tabled) (omega (arith, c .before .before .before .before .moved .ensures)) (d .tailed), rest-low w [] d (c .before .before .before .before .before .before .loop .next) x, span-all w x, c .before .before .before .before .before .before .loop .inv .2, c .before .before .before .before .before .before .before .before .before .before .before .before .before .before .pre .0 .1 .within, c .before .before .before .before .before .before .before .before .before .before .before .before .before .before .pre .0 .0 .lined .short)
+    omega (arith, ap (λ i. getD (now (c .before .before .before .before .before .before .before .before .before .before .before .before .before .before .args .heads)) i 0) e, c .before .before .before .before .before .before .before .before .before .before .before .before .before .before .pre .1 (k - f) (omega (arith, c .before .before .before .before .before .before .loop .inv .1)), c .before .tail-of .ensures (c .before .before .before .before .before .before .before .before .before .before .before .before .before .before .pre .0 .0 .problem) (w .tabled) (omega (arith, c .before .before .before .before .moved .ensures)) (d .tailed), rest-low w [] d (c .before .before .before .before .before .before .loop .next) x, span-all w x, c .before .before .before .before .before .before .loop .inv .3, c .before .before .before .before .before .before .before .before .before .before .before .before .before .before .pre .0 .1 .within, c .before .before .before .before .before .before .before .before .before .before .before .before .before .before .pre .0 .0 .lined .short)
 
 greater-requires : tie.Need-greater-requires Inv-loop μ-loop
 greater-requires c κs = search needs
@@ -133,14 +133,14 @@ loop-again c =
     let k = c .before .before .before .before .before .before .before .loop .at - 1 in (
       omega (arith, c .before .before .before .before .before .before .loop-test .taken),
       omega (arith, i .1),
-      omega (arith, i .1, c .before .before .before .before .before .before .loop-test .taken, c .before .before .tail-of .ensures (c .before .before .before .before .before .before .before .before .before .before .before .before .before .before .before .pre .0 .0 .problem) (w .tabled) (omega (arith, c .before .before .before .before .before .moved .ensures)) (d .tailed), rest-low w [] d (c .before .before .before .before .before .before .before .loop .next) x, span-all w x, i .2),
       λ p order v l e held.
           let t = c .before .before .tail-of .ensures p (v .tabled) (omega (arith, c .before .before .before .before .before .moved .ensures, stands e (c .before .before .before .before .before .before .before .before .before .before .before .before .before .before .before .pre .0 .1) k (omega (arith, i .1)))) (l .tailed) in
-          tails-again (i .3 p order v l e held) held (c .before .before .before .before .before .before .loop-test .taken) (i .1) x (getD (now (c .before .before .before .before .before .before .before .before .before .before .before .before .before .before .before .args .heads)) k 0) (getD (now (c .before .before .before .before .before .before .before .before .before .before .before .before .before .before .before .args .ends)) x 0 - getD (now (c .before .before .before .before .before .before .before .before .before .before .before .before .before .before .before .args .starts)) x 0 + c .before .before .tail-of .result) (c .greater .result) (c .before .before .before .before .before .moved .ensures) refl (ap (λ (z : ℕ). getD (now (c .before .before .before .before .before .before .before .before .before .before .before .before .before .before .before .args .ends)) x 0 - getD (now (c .before .before .before .before .before .before .before .before .before .before .before .before .before .before .before .args .starts)) x 0 + z) t) (c .greater .ensures),
+          tails-again (i .2 p order v l e held) held (c .before .before .before .before .before .before .loop-test .taken) (i .1) x (getD (now (c .before .before .before .before .before .before .before .before .before .before .before .before .before .before .before .args .heads)) k 0) (getD (now (c .before .before .before .before .before .before .before .before .before .before .before .before .before .before .before .args .ends)) x 0 - getD (now (c .before .before .before .before .before .before .before .before .before .before .before .before .before .before .before .args .starts)) x 0 + c .before .before .tail-of .result) (c .greater .result) (c .before .before .before .before .before .moved .ensures) refl (ap (λ (z : ℕ). getD (now (c .before .before .before .before .before .before .before .before .before .before .before .before .before .before .before .args .ends)) x 0 - getD (now (c .before .before .before .before .before .before .before .before .before .before .before .before .before .before .before .args .starts)) x 0 + z) t) (c .greater .ensures),
+      omega (arith, i .1, c .before .before .before .before .before .before .loop-test .taken, c .before .before .tail-of .ensures (c .before .before .before .before .before .before .before .before .before .before .before .before .before .before .before .pre .0 .0 .problem) (w .tabled) (omega (arith, c .before .before .before .before .before .moved .ensures)) (d .tailed), rest-low w [] d (c .before .before .before .before .before .before .before .loop .next) x, span-all w x, i .3),
     )
 
 returns : tie.Need-returns Inv-loop μ-loop
-returns c = λ p order v l e held. tails-all (c .before .loop .inv .3 p order v l e held) (omega arith) (c .before .loop .inv .0)
+returns c = λ p order v l e held. tails-all (c .before .loop .inv .2 p order v l e held) (omega arith) (c .before .loop .inv .0)
 
 pub longest-spec : {M : Type 1} → statement M
 longest-spec =
