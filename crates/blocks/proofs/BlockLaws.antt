@@ -18,7 +18,7 @@ use Rattle.ranking.proofs.StreamLaws.{with-append}
 use Rattle.path.specs.Placing.{placed}
 use Rattle.blocks.specs.BlockMoves.{Block, block, closed, blocksBy, blocks, blockMoves}
 use Rattle.blocks.specs.Keeping.{keepBestEstimated}
-use Rattle.blocks.specs.Scanning.{Run, offered, Offers, OffersAll, Searched, ownMoves, ownMovesOfAll}
+use Rattle.blocks.specs.Scanning.{Run, offered, Offers, OffersAll, Pathed, Searched, ownMoves, ownMovesOfAll}
 use Rattle.blocks.proofs.OfferLaws.{map-append}
 use Rattle.blocks.proofs.OnceLaws.{own-append}
 use Rattle.blocks.proofs.PathLaws.{rateable, blocks-held, moves-once}
@@ -74,6 +74,11 @@ module _ (all : Bool) (lines : Lines) (table starts ends tail path machines plac
       }
 
 -- ---- the three that are kept
+
+-- As many are counted as there are block moves.
+pub counted : {n : ℕ} {lines : Lines} {path machines places : List ℕ} → Pathed n lines path machines places
+    → length (ownMovesOfAll (blocksBy (λ a. getD machines a 0) (λ a. getD places a 0) path)) ≡ length (blockMoves lines path)
+counted k = ap (λ (l : List Block). length (ownMovesOfAll l)) (blocks-held k) ∙ ap (λ (l : List Move). length l) (moves-once k)
 
 pub three-kept : {lines : Lines} {table starts ends tail path machines places : List ℕ} {after : List Rated} (count : ℕ)
     → count ≡ length (ownMovesOfAll (blocksBy (λ a. getD machines a 0) (λ a. getD places a 0) path))

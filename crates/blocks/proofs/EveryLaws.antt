@@ -1,7 +1,8 @@
 -- What is so of every element of a list.
 use mathlib.Core.List.{List, [], _∷_, _++_}
-use Prim.Native.Nat.{ℕ, zero, suc}
-use lib.ListN.{take}
+use Prim.Native.Nat.{ℕ, zero, suc, _<_}
+use native.Mathlib.Omega.{arith}
+use lib.ListN.{length, getD, take}
 
 pub data Every {A : Type 0} (P : A → Type 0) : List A → Type 0 where
   none : Every P []
@@ -20,3 +21,8 @@ module _ {A : Type 0} {P : A → Type 0} where
   every-take zero h = none
   every-take (suc k) none = none
   every-take (suc k) (also h hs) = also h (every-take k hs)
+
+  pub every-at : {l : List A} → Every P l → (k : ℕ) (other : A) → k < length l → P (getD l k other)
+  every-at none k other h = absurd (omega arith)
+  every-at (also h hs) zero other k = h
+  every-at (also h hs) (suc i) other k = every-at hs i other (omega arith)

@@ -4,7 +4,7 @@ use mathlib.Core.Path.{_≡_, refl, sym, ap, _∙_}
 use mathlib.Core.Bool.{Bool, true, false, cond}
 use mathlib.Core.List.{List, [], _∷_, _++_, map}
 use native.Mathlib.Omega.{arith}
-use borrow.Author.Tests.{leb-true}
+use borrow.Author.Tests.{leb-true, le-leb}
 use lib.Dec.{leb}
 use lib.ListN.{length}
 use Rattle.plan.specs.Problem.{Problem}
@@ -34,3 +34,8 @@ module _ (p : Problem) (lines : Lines) (s : Placing) (tail : List ℕ) where
 
   pub kept : (moves : List Move) → withAll [] (map (offered (leb (length moves) 3) p lines s tail) moves) ≡ keepBestEstimated p lines s tail moves
   kept moves = by-test moves (leb (length moves) 3) refl
+
+-- Three or fewer stay as they are whatever the tails, so that none need be worked out for them.
+pub few-any-tails : (p : Problem) (lines : Lines) (s : Placing) (tail other : List ℕ) (moves : List Move) → length moves ≤ 3
+    → keepBestEstimated p lines s tail moves ≡ keepBestEstimated p lines s other moves
+few-any-tails p lines s tail other moves h = rw (le-leb (length moves) 3 h)
