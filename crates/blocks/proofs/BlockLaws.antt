@@ -1,8 +1,8 @@
 -- The moves of one block after the other: what is left to offer, after those offered so far, gives the best three of all.
-use Prim.Native.Nat.{ℕ, suc, _+_, _-_, _≤_, _<_}
+use Prim.Native.Nat.{ℕ, _+_, _≤_, _<_}
 use mathlib.Core.Path.{_≡_, refl, sym, ap, _∙_}
 use mathlib.Core.Bool.{Bool}
-use mathlib.Core.List.{List, [], _∷_, _++_, map, append-nil}
+use mathlib.Core.List.{List, [], map, append-nil}
 use native.Mathlib.Omega.{arith}
 use borrow.Author.Tests.{lt-ltb, le-ltb}
 use lib.Dec.{leb}
@@ -16,7 +16,7 @@ use Rattle.ranking.specs.declared.Rated.{Rated}
 use Rattle.ranking.specs.Ranking.{withAll}
 use Rattle.ranking.proofs.StreamLaws.{with-append}
 use Rattle.path.specs.Placing.{placed}
-use Rattle.blocks.specs.BlockMoves.{Block, block, closed, blocksBy, blocks, blockMoves}
+use Rattle.blocks.specs.BlockMoves.{Block, block, closed, blocksBy, blockMoves}
 use Rattle.blocks.specs.Keeping.{keepBestEstimated}
 use Rattle.blocks.specs.Scanning.{Run, offered, Offers, OffersAll, Pathed, Searched, ownMoves, ownMovesOfAll}
 use Rattle.blocks.proofs.OfferLaws.{map-append}

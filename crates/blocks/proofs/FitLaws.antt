@@ -1,11 +1,10 @@
 -- Every block move fits the lines and leaves each activity on its machine, and so does each that is kept.
-use Prim.Native.Nat.{ℕ, zero, suc, _+_, _-_, _≤_, _<_}
-use mathlib.Core.Path.{_≡_, refl, sym, ap, _∙_}
-use mathlib.Core.Bool.{Bool, true, false, cond}
-use mathlib.Core.List.{List, [], _∷_, _++_, map, append-nil}
+use Prim.Native.Nat.{ℕ, _+_, _-_, _<_}
+use mathlib.Core.Path.{sym}
+use mathlib.Core.List.{List, [], _∷_, map, append-nil}
 use native.Mathlib.Omega.{arith}
-use borrow.Author.Tests.{eqb-true, lt-ltb, le-ltb}
-use lib.Dec.{eqb, leb}
+use borrow.Author.Tests.{lt-ltb, le-ltb}
+use lib.Dec.{leb}
 use lib.ListN.{length}
 use Rattle.graph.specs.Counting.{Below}
 use Rattle.graph.proofs.CountingLaws.{either}
@@ -13,15 +12,14 @@ use Rattle.plan.specs.Problem.{Problem}
 use Rattle.lines.specs.Lines.{Lines, machineOf, positionOf}
 use Rattle.moves.specs.Moves.{lineOf, Fits, Within}
 use Rattle.moves.specs.declared.Move.{Move}
-use Rattle.moves.specs.declared.Move.the-variants.{Swap, Shift}
+use Rattle.moves.specs.declared.Move.the-variants.{Swap}
 use Rattle.ranking.specs.declared.Rated.{Rated}
-use Rattle.ranking.specs.Ranking.{precedes, insertBy, sortInto, bestThree}
+use Rattle.ranking.specs.Ranking.{precedes, insertBy, sortInto}
 use Rattle.path.specs.Placing.{Placing}
-use Rattle.blocks.specs.BlockMoves.{Block, block, closed, goesOn, begun, blocksFrom, blocksBy, blocks, shifts, blockMoves}
+use Rattle.blocks.specs.BlockMoves.{block, closed, goesOn, begun, blocksFrom, blocks, blockMoves}
 use Rattle.blocks.specs.Keeping.{asGiven, estimated, keepBestEstimated}
 use Rattle.blocks.specs.Scanning.{Pathed, ownMoves, ownMovesOfAll}
-use Rattle.blocks.proofs.RunLaws.{both-true}
-use Rattle.blocks.proofs.EveryLaws.{Every, none, also, every-append, every-map, every-take}
+use Rattle.blocks.proofs.EveryLaws.{Every, none, also, every-append, every-take}
 use Rattle.blocks.proofs.OnceLaws.{split, every-shift, goes-on, ends-there, at-end, own-append}
 use Rattle.blocks.proofs.PathLaws.{moves-once}
 

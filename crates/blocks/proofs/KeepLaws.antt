@@ -1,8 +1,8 @@
 -- Three or fewer moves as given, else the three of least estimate: both are the best three of the moves as they are offered.
-use Prim.Native.Nat.{ℕ, suc, _≤_, _<_}
-use mathlib.Core.Path.{_≡_, refl, sym, ap, _∙_}
+use Prim.Native.Nat.{ℕ, _≤_}
+use mathlib.Core.Path.{_≡_, refl, _∙_}
 use mathlib.Core.Bool.{Bool, true, false, cond}
-use mathlib.Core.List.{List, [], _∷_, _++_, map}
+use mathlib.Core.List.{List, [], _∷_, map}
 use native.Mathlib.Omega.{arith}
 use borrow.Author.Tests.{leb-true, le-leb}
 use lib.Dec.{leb}
@@ -10,7 +10,6 @@ use lib.ListN.{length}
 use Rattle.plan.specs.Problem.{Problem}
 use Rattle.lines.specs.Lines.{Lines}
 use Rattle.moves.specs.declared.Move.{Move}
-use Rattle.ranking.specs.declared.Rated.{Rated}
 use Rattle.ranking.specs.Ranking.{insertBy, sortInto, bestThree, withAll}
 use Rattle.ranking.proofs.StreamLaws.{streamed-all}
 use Rattle.path.specs.Placing.{Placing}

@@ -1,25 +1,24 @@
 -- Moves offered one after the other: none, one, some after others.
 use Prim.Native.Nat.{ℕ, zero, suc, _+_, _-_, _≤_, _<_, max, min}
 use mathlib.Core.Path.{_≡_, refl, sym, ap, _∙_}
-use mathlib.Core.Bool.{Bool, true, false, cond}
+use mathlib.Core.Bool.{Bool, cond}
 use mathlib.Core.List.{List, [], _∷_, _++_, map}
-use native.Mathlib.Numerals.{add-one}
 use native.Mathlib.Omega.{arith}
 use borrow.Author.Tests.{lt-ltb, le-ltb}
-use lib.ListN.{length, getD}
+use lib.ListN.{length}
 use Rattle.plan.specs.Problem.{Problem}
 use Rattle.lines.specs.Lines.{Lines}
-use Rattle.moves.specs.Moves.{lineOf, swapAt, shifted}
+use Rattle.moves.specs.Moves.{swapAt, shifted}
 use Rattle.moves.specs.declared.Move.{Move}
 use Rattle.moves.specs.declared.Move.the-variants.{Swap, Shift}
 use Rattle.moves.proofs.LineLaws.{swap-shifted}
 use Rattle.ranking.specs.declared.Rated.{Rated}
 use Rattle.ranking.specs.Ranking.{withOne, withAll}
 use Rattle.ranking.proofs.StreamLaws.{with-append}
-use Rattle.path.specs.Placing.{Placing, placed}
-use Rattle.blocks.specs.Estimates.{estimateOf, estimate}
-use Rattle.blocks.specs.Weighing.{Weighed, Low, Lined, Estimable, Reordering}
-use Rattle.blocks.specs.BlockMoves.{Block, block, shifts, movesOf}
+use Rattle.path.specs.Placing.{placed}
+use Rattle.blocks.specs.Estimates.{estimateOf}
+use Rattle.blocks.specs.Weighing.{Reordering}
+use Rattle.blocks.specs.BlockMoves.{block, shifts}
 use Rattle.blocks.specs.Scanning.{offered, Rateable, Offers, ownMoves}
 
 -- ---- a stretch between two positions

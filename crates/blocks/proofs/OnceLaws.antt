@@ -2,18 +2,17 @@
 -- swaps of a block of two are one.
 use Prim.Native.Nat.{ℕ, zero, suc, _+_, _-_, _≤_, _<_}
 use mathlib.Core.Path.{_≡_, refl, sym, ap, _∙_}
-use mathlib.Core.Bool.{Bool, true, false, cond, _&&_, _||_}
+use mathlib.Core.Bool.{Bool, true, false, _&&_, _||_}
 use mathlib.Core.List.{List, [], _∷_, _++_, append-nil, append-assoc}
 use native.Mathlib.Omega.{arith}
 use borrow.Author.Tests.{eq-eqb, ne-eqb, eqb-true, lt-ltb, le-ltb}
-use lib.Dec.{eqb, ltb}
+use lib.Dec.{eqb}
 use Rattle.graph.proofs.CountingLaws.{either}
 use Rattle.moves.specs.declared.Move.{Move}
 use Rattle.moves.specs.declared.Move.the-variants.{Swap, Shift, Reassign}
 use Rattle.blocks.specs.BlockMoves.{Block, block, closed, goesOn, blocksFrom, blocksBy, begun, shifts, movesOf, movesOfAll, same, isAmong, once}
 use Rattle.blocks.specs.Scanning.{ownMoves, ownMovesOfAll}
-use Rattle.blocks.proofs.RunLaws.{both-true, own-closed, own-single}
-use Rattle.blocks.proofs.OfferLaws.{own-pair}
+use Rattle.blocks.proofs.RunLaws.{both-true}
 use Rattle.blocks.proofs.EveryLaws.{Every, none, also, every-append, every-map}
 
 -- ---- tests

@@ -1,18 +1,18 @@
 -- A path that names no activity twice: its activities stand at different positions, the arrays give the same blocks as the lines, and each
 -- block's positions are on its line.
-use Prim.Native.Nat.{ℕ, suc, _+_, _-_, _*_, _^_, _≤_, _<_}
+use Prim.Native.Nat.{ℕ, _+_, _-_, _^_, _≤_, _<_}
 use mathlib.Core.Path.{_≡_, refl, sym, ap, _∙_}
-use mathlib.Core.Bool.{Bool, cond}
+use mathlib.Core.Bool.{cond}
 use mathlib.Core.List.{List, [], _∷_, _++_}
 use native.Mathlib.Omega.{arith}
 use lib.ListN.{length, getD, List·getD-eq-default}
-use Rattle.graph.specs.Counting.{Below, countOf, hit, sumTo}
+use Rattle.graph.specs.Counting.{Below, countOf, hit}
 use Rattle.graph.proofs.CountingLaws.{either, hit-eq, below-at, count-all, sumTo-le}
 use Rattle.plan.specs.Problem.{Problem}
 use Rattle.lines.specs.Lines.{Lines, machineOf, positionOf}
 use Rattle.moves.specs.Moves.{lineOf}
-use Rattle.blocks.specs.Weighing.{Weighed, Low, Lined, Estimable}
-use Rattle.blocks.specs.BlockMoves.{Block, block, closed, goesOn, longer, begun, blocksFrom, blocksBy, blocks, movesOfAll, once, blockMoves}
+use Rattle.blocks.specs.Weighing.{Estimable}
+use Rattle.blocks.specs.BlockMoves.{Block, block, closed, goesOn, longer, begun, blocksFrom, blocksBy, blocks, once, blockMoves}
 use Rattle.blocks.specs.Scanning.{Scanned, Run, Pathed, Rateable, Searched, ownMovesOfAll}
 use Rattle.blocks.proofs.EveryLaws.{Every, none, also}
 use Rattle.blocks.proofs.OnceLaws.{Clear, Apart, alone, apart, once-all}

@@ -1,17 +1,16 @@
 -- Runs of a path: one more activity, the end of a run, and how many moves there are.
 use Prim.Native.Nat.{ℕ, zero, suc, _+_, _-_, _*_, _≤_, _<_}
 use mathlib.Core.Path.{_≡_, refl, sym, ap, _∙_}
-use mathlib.Core.Bool.{Bool, true, false, cond, not, _&&_}
+use mathlib.Core.Bool.{Bool, true, false, not, _&&_}
 use mathlib.Core.List.{List, [], _∷_, _++_, append-nil}
 use native.Mathlib.Numerals.{add-one}
 use native.Mathlib.Omega.{arith}
-use borrow.Author.Tests.{eq-eqb, eqb-true, lt-ltb, le-ltb}
+use borrow.Author.Tests.{eqb-true, lt-ltb, le-ltb}
 use lib.Dec.{eqb, ltb}
 use lib.ListN.{length, getD, drop, length-append}
 use lib.Seq.{drop-cons, drop-length}
 use Rattle.graph.proofs.CountingLaws.{either}
-use Rattle.moves.specs.declared.Move.{Move}
-use Rattle.blocks.specs.BlockMoves.{Block, block, closed, goesOn, begun, blocksFrom, blocksBy, shifts, movesOf}
+use Rattle.blocks.specs.BlockMoves.{Block, block, closed, goesOn, blocksFrom, blocksBy, shifts}
 use Rattle.blocks.specs.Scanning.{Run, ownMoves, ownMovesOfAll, movesIn}
 
 -- ---- tests

@@ -4,8 +4,7 @@ use mathlib.Core.Path.{_≡_, refl, sym, ap, _∙_}
 use mathlib.Core.List.{List, [], _∷_}
 use native.Mathlib.Omega.{arith}
 use borrow.Author.Tests.{lt-ltb, le-ltb}
-use lib.Dec.{ltb}
-use lib.ListN.{length, getD, set, length-set, List·getD-eq-default}
+use lib.ListN.{length, getD, set, List·getD-eq-default}
 use lib.Seq.{getD-set-same, getD-set-other}
 use Rattle.graph.specs.Counting.{Below}
 use Rattle.graph.specs.Links.{linked}
@@ -18,7 +17,7 @@ use Rattle.plan.specs.Problem.{Problem}
 use Rattle.tables.specs.Tabled.{taskPred, taskSucc}
 use Rattle.moves.specs.Moves.{removeAt, insertAt, shifted}
 use Rattle.moves.proofs.LineLaws.{length-shifted}
-use Rattle.path.specs.Placing.{Placing, placed, endAt, spanIn}
+use Rattle.path.specs.Placing.{Placing, placed, spanIn}
 use Rattle.path.specs.Tails.{after}
 use Rattle.path.specs.Following.{Addable}
 use Rattle.blocks.specs.Estimates.{headOf, restOf, Through, joined, through, readyAfter, endBefore, afterAt}

@@ -1,7 +1,7 @@
 -- What block moves ask is so of an accepted problem and of lines that were timed without contradiction: the critical path names no activity
 -- twice, and each activity stands at its place.
-use Prim.Native.Nat.{ℕ, zero, suc, _+_, _*_, _^_, _≤_, _<_}
-use mathlib.Core.Path.{_≡_, refl, sym, ap, _∙_}
+use Prim.Native.Nat.{ℕ, zero, suc, _+_, _^_, _≤_, _<_}
+use mathlib.Core.Path.{_≡_, refl, ap}
 use mathlib.Core.Bool.{false}
 use mathlib.Core.List.{List, [], _∷_}
 use native.Mathlib.Omega.{arith}
@@ -24,12 +24,11 @@ use Rattle.path.specs.Path.{lastToEnd, backOf, walkBack, criticalPath}
 use Rattle.path.specs.Walking.{Walkable}
 use Rattle.path.specs.Tails.{tails}
 use Rattle.path.proofs.LastLaws.{last-below}
-use Rattle.path.proofs.NeighbourLaws.{nothing-to}
 use Rattle.path.proofs.BackLaws.{back-binds}
 use Rattle.path.proofs.WalkLaws.{arc-known}
 use Rattle.path.proofs.BoundLaws.{path-below, tails-sized, tails-low}
 use Rattle.path.proofs.TimedLaws.{Spanned, timed-walkable, timed-followed}
-use Rattle.blocks.specs.Weighing.{Weighed, Low, Lined}
+use Rattle.blocks.specs.Weighing.{Weighed, Low}
 use Rattle.blocks.specs.Scanning.{Pathed, Searched}
 
 -- ---- the path names no activity twice

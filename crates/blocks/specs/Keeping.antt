@@ -1,6 +1,6 @@
 -- Document 01, "One search step": of more than three block moves keep the three smallest estimates, ties as given; three or fewer stay unsorted.
 use Prim.Native.Nat.{ℕ}
-use mathlib.Core.Bool.{Bool, cond}
+use mathlib.Core.Bool.{cond}
 use mathlib.Core.List.{List, map}
 use lib.Dec.{leb}
 use lib.ListN.{length}

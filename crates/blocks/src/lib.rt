@@ -4,7 +4,6 @@ mod runs;
 mod stretch;
 
 pub use runs::count_moves;
-
 ghost use mathlib.Core.Path.{_≡_};
 ghost use mathlib.Core.List.{List, []};
 ghost use Prim.Native.Nat.{ℕ, _≤_, _<_};

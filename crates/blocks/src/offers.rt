@@ -11,7 +11,7 @@ ghost use Rattle.ranking.specs.Ranking.{ranked};
 ghost use Rattle.path.specs.Placing.{placed};
 ghost use Rattle.blocks.specs.Estimates.{estimateOf};
 ghost use Rattle.blocks.specs.BlockMoves.{block, shifts};
-ghost use Rattle.blocks.specs.Weighing.{Weighed, Low, Lined, Reordering, Estimable};
+ghost use Rattle.blocks.specs.Weighing.{Weighed, Low, Lined, Estimable};
 ghost use Rattle.blocks.specs.Scanning.{ownMoves, Offers};
 use crate::stretch::estimate;
 use moves::Move;

@@ -1,7 +1,7 @@
 // The runs of a path on one machine at successive positions.
 ghost use mathlib.Core.Path.{_≡_};
 ghost use mathlib.Core.Bool.{_&&_};
-ghost use Prim.Native.Nat.{ℕ, suc, _+_, _^_, _<_};
+ghost use Prim.Native.Nat.{suc, _+_, _^_, _<_};
 ghost use lib.Dec.{eqb};
 ghost use lib.ListN.{length, getD};
 ghost use Rattle.blocks.specs.BlockMoves.{blocksBy};

@@ -1,18 +1,17 @@
 // How long the work through a reordered stretch of a line would be, by the heads before it and the tails behind it.
 ghost use mathlib.Core.Path.{_≡_};
 ghost use mathlib.Core.List.{List};
-ghost use Prim.Native.Nat.{ℕ, _+_, _-_, _^_, _<_, _≤_, max, suc};
+ghost use Prim.Native.Nat.{ℕ, _+_, _-_, _^_, _<_, _≤_, max};
 ghost use lib.ListN.{length, getD};
 ghost use Rattle.graph.specs.Counting.{Below};
 ghost use Rattle.graph.specs.Links.{linked};
 ghost use Rattle.graph.specs.Shop.{greatest};
 ghost use Rattle.plan.specs.Problem.{Problem};
 ghost use Rattle.tables.specs.Tabled.{Tabled, taskPred, taskSucc};
-ghost use Rattle.tables.specs.Found.{Held};
 ghost use Rattle.moves.specs.Moves.{shifted};
 ghost use Rattle.path.specs.Placing.{placed};
 ghost use Rattle.path.specs.Following.{Addable};
-ghost use Rattle.blocks.specs.Estimates.{through, endBefore, afterAt, estimateOf};
+ghost use Rattle.blocks.specs.Estimates.{endBefore, afterAt, estimateOf};
 ghost use Rattle.blocks.specs.Weighing.{Weighed, Low, Lined, Reordering, Known, Headed, Estimable, HeadsHeld};
 use graph::Link;
 

@@ -1,6 +1,4 @@
 -- `blocks::block_moves` meets its contract: the moves that were offered are each move once, and they are sorted only where they are more than three.
-use mathlib.Core.Path.{_≡_, refl, sym, _∙_}
-use native.Mathlib.Omega.{arith}
 use Rattle.blocks.proofs.PathLaws.{scanned}
 use Rattle.blocks.proofs.BlockLaws.{three-kept}
 use borrow.Author.Needs.{needs}

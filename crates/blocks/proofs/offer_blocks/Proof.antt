@@ -1,9 +1,9 @@
 -- `blocks::offer_blocks` meets its contract. The loop's invariant: offering what is left gives the best three of all.
-use Prim.Native.Nat.{_+_, _-_, _≤_}
-use mathlib.Core.Path.{_≡_, refl, sym, _∙_}
+use Prim.Native.Nat.{_-_, _≤_}
+use mathlib.Core.Path.{_≡_, refl, _∙_}
 use native.Mathlib.Omega.{arith}
 use denote.Ref.{now}
-use lib.ListN.{length, getD}
+use lib.ListN.{length}
 use Rattle.lines.specs.Lines.{linesIn}
 use Rattle.ranking.specs.Ranking.{ranked}
 use Rattle.blocks.proofs.PathLaws.{scanned}

@@ -1,12 +1,12 @@
 -- `blocks::offer_run` meets its contract: the run's positions are on its line, and a single activity offers nothing.
 use Prim.Native.Nat.{_+_, _*_}
-use mathlib.Core.Path.{_≡_, refl, sym, ap, _∙_}
+use mathlib.Core.Path.{refl, ap}
 use native.Mathlib.Omega.{arith}
 use denote.Ref.{now}
 use lib.ListN.{length, getD}
 use Rattle.lines.specs.Lines.{linesIn}
 use Rattle.ranking.specs.Ranking.{ranked}
-use Rattle.moves.proofs.CellLaws.{part-is, line-long}
+use Rattle.moves.proofs.CellLaws.{part-is}
 use Rattle.blocks.proofs.PathLaws.{first-known, last-known, machine-known, last-inside, estimable}
 use Rattle.blocks.proofs.BlockLaws.{single-offered, block-offered}
 use borrow.Author.Needs.{needs}

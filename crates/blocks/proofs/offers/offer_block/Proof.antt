@@ -1,9 +1,7 @@
 -- `blocks::offers::offer_block` meets its contract: the offers of each part, one after the other.
-use Prim.Native.Nat.{_+_, _-_}
-use mathlib.Core.Path.{_≡_, refl, sym, _∙_}
+use mathlib.Core.Path.{_∙_}
 use native.Mathlib.Omega.{arith}
 use Rattle.blocks.proofs.OfferLaws.{offers-then, own-pair, own-more}
-use borrow.Author.Needs.{needs}
 use Rattle.blocks.proofs.offers.offer_block.Statement.{statement}
 use Rattle.blocks.proofs.offers.offer_block.Tie as tie
 

@@ -1,9 +1,7 @@
 -- `blocks::offers::offer_ends` meets its contract.
-use Prim.Native.Nat.{_+_, _-_}
 use mathlib.Core.Path.{_∙_}
 use native.Mathlib.Omega.{arith}
 use Rattle.blocks.proofs.OfferLaws.{offers-ends}
-use borrow.Author.Needs.{needs}
 use Rattle.blocks.proofs.offers.offer_ends.Statement.{statement}
 use Rattle.blocks.proofs.offers.offer_ends.Tie as tie
 

@@ -1,7 +1,4 @@
 -- `blocks::offers::offer_shift` meets its contract.
-use Prim.Native.Nat.{_+_}
-use mathlib.Core.Path.{_∙_}
-use native.Mathlib.Omega.{arith}
 use Rattle.moves.specs.declared.Move.the-variants.{Shift}
 use Rattle.blocks.proofs.OfferLaws.{offers-one, shift-rank}
 use borrow.Author.Needs.{needs}

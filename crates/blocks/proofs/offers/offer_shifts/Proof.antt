@@ -1,6 +1,6 @@
 -- `blocks::offers::offer_shifts` meets its contract. The loop's invariant: the shifts from the positions so far were offered.
-use Prim.Native.Nat.{_+_, _-_, _≤_}
-use mathlib.Core.Path.{_≡_, refl, _∙_}
+use Prim.Native.Nat.{_-_, _≤_}
+use mathlib.Core.Path.{_≡_, refl}
 use native.Mathlib.Omega.{arith}
 use lib.ListN.{length}
 use Rattle.ranking.specs.Ranking.{ranked}

@@ -1,6 +1,4 @@
 -- `blocks::offers::offer_swap` meets its contract.
-use Prim.Native.Nat.{_+_}
-use mathlib.Core.Path.{_∙_}
 use native.Mathlib.Omega.{arith}
 use Rattle.moves.specs.declared.Move.the-variants.{Swap}
 use Rattle.blocks.proofs.OfferLaws.{offers-one, swap-rank}

@@ -1,6 +1,4 @@
 -- `blocks::offers::weigh` meets its contract.
-use mathlib.Core.Path.{_∙_}
-use native.Mathlib.Omega.{arith}
 use Rattle.blocks.proofs.OfferLaws.{between}
 use borrow.Author.Needs.{needs}
 use Rattle.blocks.proofs.offers.weigh.Statement.{statement}

@@ -6,7 +6,6 @@ use denote.Ref.{now}
 use lib.ListN.{length, getD}
 use Rattle.graph.proofs.CountingLaws.{below-at}
 use Rattle.blocks.proofs.RunLaws.{denied, affirmed, Extending, run-begin, run-out, run-stops, run-goes}
-use borrow.Author.Needs.{needs}
 use Rattle.blocks.proofs.runs.block_end.Statement.{statement}
 use Rattle.blocks.proofs.runs.block_end.Tie as tie
 

@@ -1,11 +1,9 @@
 -- `blocks::runs::count_moves` meets its contract. The loop's invariant: those counted and those of the rest of the path are all.
-use Prim.Native.Nat.{_+_, _-_}
-use mathlib.Core.Path.{sym, _∙_}
+use Prim.Native.Nat.{_-_}
 use native.Mathlib.Omega.{arith}
 use denote.Ref.{now}
 use lib.ListN.{length, getD}
 use Rattle.blocks.proofs.RunLaws.{Counting, count-begin, few-moves, count-all, count-again}
-use borrow.Author.Needs.{needs}
 use Rattle.blocks.proofs.runs.count_moves.Statement.{statement}
 use Rattle.blocks.proofs.runs.count_moves.Tie as tie
 

@@ -1,9 +1,7 @@
 -- `blocks::stretch::estimate` meets its contract.
-use mathlib.Core.Path.{_∙_}
 use mathlib.Core.List.{[]}
 use native.Mathlib.Omega.{arith}
 use denote.Ref.{now}
-use lib.ListN.{length}
 use Rattle.blocks.proofs.StretchLaws.{end-low, heads-low}
 use borrow.Author.Needs.{needs}
 use Rattle.blocks.proofs.stretch.estimate.Statement.{statement}

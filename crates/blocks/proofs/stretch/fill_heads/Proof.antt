@@ -1,19 +1,17 @@
 -- `blocks::stretch::fill_heads` meets its contract. The loop's invariant: the heads of those passed are written, and `ready` is the last of them
 -- plus its span; whatever the problem, it is not late.
 use Prim.Native.Nat.{ℕ, _+_, _-_, _*_, _^_, _≤_}
-use mathlib.Core.Path.{_≡_, refl, ap, _∙_}
+use mathlib.Core.Path.{_≡_, refl}
 use mathlib.Core.List.{List, []}
 use native.Mathlib.Omega.{arith}
 use denote.Ref.{now}
-use lib.ListN.{length, getD, length-set}
-use Rattle.graph.proofs.CountingLaws.{below-at}
+use lib.ListN.{length, length-set}
 use Rattle.plan.specs.Problem.{Problem}
 use Rattle.moves.specs.Moves.{shifted}
 use Rattle.path.specs.Placing.{placed}
 use Rattle.blocks.specs.Estimates.{endBefore}
 use Rattle.blocks.specs.Weighing.{Weighed, Lined}
 use Rattle.blocks.proofs.StretchLaws.{stands, span-all, headable, end-low, head-low, Heading, heads-begin, heads-all, heads-again}
-use borrow.Author.Needs.{needs}
 use Rattle.blocks.proofs.stretch.fill_heads.Statement.{statement}
 use Rattle.blocks.proofs.stretch.fill_heads.Tie as tie
 

@@ -1,7 +1,6 @@
 -- `blocks::stretch::later_rest` meets its contract: the greatest over none or over one.
 use Prim.Native.Nat.{_+_, _-_, max}
 use mathlib.Core.Path.{ap, _∙_}
-use native.Mathlib.Omega.{arith}
 use denote.Ref.{now}
 use lib.ListN.{length, getD}
 use Rattle.bounds.proofs.ArrivalLaws.{link-names}

@@ -1,12 +1,11 @@
 -- `blocks::stretch::longest` meets its contract. The loop's invariant: those passed, from the position on, were gone through; whatever the
 -- problem, what is behind the position is not long.
 use Prim.Native.Nat.{ℕ, _+_, _-_, _*_, _^_, _≤_}
-use mathlib.Core.Path.{_≡_, refl, ap, _∙_}
+use mathlib.Core.Path.{_≡_, refl, ap}
 use mathlib.Core.List.{List, []}
 use native.Mathlib.Omega.{arith}
 use denote.Ref.{now}
-use lib.ListN.{length, getD}
-use Rattle.graph.proofs.CountingLaws.{below-at}
+use lib.ListN.{getD}
 use Rattle.plan.specs.Problem.{Problem}
 use Rattle.moves.specs.Moves.{shifted}
 use Rattle.path.specs.Placing.{placed}

@@ -1,15 +1,13 @@
 -- `blocks::stretch::tail_of` meets its contract.
-use Prim.Native.Nat.{ℕ, _+_, _-_}
+use Prim.Native.Nat.{_+_, _-_}
 use mathlib.Core.Path.{ap, _∙_}
 use denote.Ref.{now}
-use lib.ListN.{length, getD}
+use lib.ListN.{getD}
 use native.Mathlib.Omega.{arith}
 use Rattle.graph.specs.Links.{linked}
 use Rattle.graph.specs.Shop.{greatest}
 use Rattle.graph.specs.declared.Link.{Link}
-use Rattle.tables.specs.Tabled.{taskSucc}
 use Rattle.path.proofs.NeighbourLaws.{succ-below}
-use borrow.Author.Needs.{needs}
 use Rattle.blocks.proofs.stretch.tail_of.Statement.{statement}
 use Rattle.blocks.proofs.stretch.tail_of.Tie as tie
 
