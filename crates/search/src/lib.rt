@@ -1,0 +1,11 @@
+// The search: steps that try moves on timed lines and make the best of them.
+mod survey;
+
+use ranking::Three;
+pub use survey::find_moves;
+
+// The moves that a step tries: block moves, then moves to other machines.
+pub struct Moves {
+    pub blocks: Three,
+    pub others: Three,
+}
