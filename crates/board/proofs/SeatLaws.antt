@@ -14,8 +14,12 @@ use Rattle.graph.specs.declared.Link.{Link}
 use Rattle.graph.specs.declared.Link.the-variants.{To, Nothing}
 use Rattle.graph.proofs.ShopTheorem.{greatest-least}
 use Rattle.plan.specs.Problem.{Problem, Genes}
+use mathlib.Core.Option.{Option, none, some}
+use Rattle.plan.specs.Found.{machineOr}
+use Rattle.plan.specs.declared.Machine.the-variants.{On, Nothing as Nothing′}
+use Rattle.genes.specs.Indexed.{assignedTo}
 use Rattle.plan.specs.Accepted.{Accepted, longest}
-use Rattle.timing.specs.Placing.{startAfter, Ending}
+use Rattle.timing.specs.Placing.{machineBefore, startAfter, Ending}
 use Rattle.timing.proofs.EndLaws.{span-most}
 use Rattle.board.specs.Board.{lastPlaced, seatAfter}
 
@@ -54,3 +58,22 @@ finish-most p g ok a m ha hm line step way ends most ways h k w =
 -- A link of an activity can be looked up among ends that are not too late.
 pub ending : {n : ℕ} {ends : List ℕ} {link : Link} → length ends ≡ n → Below n (linked link) → ((q : ℕ) → getD ends q 0 < 2 ^ 61) → Ending ends link
 ending {n} {ends} {link} e b h = record { known = rw e b; small = λ q l. omega (arith, h q) }
+
+-- ---- an activity's machine, if it has one
+
+pub without-machine : (o : Option ℕ) → Nothing′ ≡ machineOr o → o ≡ none
+without-machine none e = refl
+without-machine (some m) e = let z : _≡_ {A = ℕ} 0 1 = cc in absurd (omega arith)
+
+pub with-machine : (o : Option ℕ) (m : ℕ) → On m ≡ machineOr o → o ≡ some m
+with-machine none m e = let z : _≡_ {A = ℕ} 0 1 = cc in absurd (omega arith)
+with-machine (some x) m e = cc
+
+pub from-none : (g : Genes) {step : Link} → step ≡ Nothing → 0 ≡ machineBefore step (assignedTo g)
+from-none g e = rw e
+
+pub from-without : (g : Genes) (q : ℕ) {step : Link} → step ≡ To q → Nothing′ ≡ machineOr (g .assigned q) → 0 ≡ machineBefore step (assignedTo g)
+from-without g q e h = rw (e, without-machine (g .assigned q) h)
+
+pub from-on : (g : Genes) (q m : ℕ) {step : Link} → step ≡ To q → On m ≡ machineOr (g .assigned q) → m ≡ machineBefore step (assignedTo g)
+from-on g q m e h = rw (e, with-machine (g .assigned q) m h)

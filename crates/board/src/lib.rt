@@ -12,10 +12,13 @@ ghost use Rattle.plan.specs.Input.{problemOf, genesOf};
 ghost use Rattle.plan.specs.Found.{Placed};
 ghost use Rattle.plan.specs.Accepted.{Accepted};
 ghost use Rattle.tables.specs.Tabled.{Tabled};
+ghost use Rattle.genes.specs.Indexed.{assignedTo};
+ghost use Rattle.timing.specs.Placing.{machineBefore};
 ghost use Rattle.board.specs.Board.{Board, boardOf, emptyBoard, lastPlaced, seatAfter, sit};
 ghost use Rattle.board.specs.Sound.{Sized, Room};
 use graph::Link;
 use plan::Layout;
+use plan::Machine;
 
 // An activity's place on its machine.
 pub struct Seat {
@@ -36,6 +39,20 @@ pub fn last_placed(cells: &[usize], k: usize, n: usize) -> Link
         return Link::To(a);
     }
     Link::Nothing
+}
+
+// The machine that the genes give the last placed of a task; 0 where there is none.
+pub fn machine_from(s: &[u8], z: Layout, step: Link) -> usize
+    requires { ⌜ Placed z × Below (z .activities) (linked step) ⌝ }
+    ensures { λ r. ⌜ r ≡ machineBefore step (assignedTo (genesOf (words (now (s .entry))) z)) ⌝ }
+{
+    let Link::To(q) = step else {
+        return 0;
+    };
+    let Machine::On(m) = plan::assigned(s, z, q) else {
+        return 0;
+    };
+    m
 }
 
 // Where and when an activity can run on a machine, after `line` there and `step` in its task, with the way from that one's machine.
