@@ -13,6 +13,7 @@ use Rattle.graph.specs.declared.Link.{Link}
 use Rattle.graph.specs.declared.Link.the-variants.{To, Nothing}
 use Rattle.plan.specs.Problem.{Problem}
 use Rattle.lines.specs.Linking.{marked}
+use Rattle.in_order.specs.Waiting.{takenBefore}
 use Rattle.in_order.specs.InOrder.{isPending, anyPending, earlierPending, isReady, canCome, firstReady}
 
 -- A list from its i-th on begins with the i-th.
@@ -103,25 +104,52 @@ module _ {p : Problem} {pending : List ℕ} {a b : ℕ} (w : Stepping p pending 
 
 -- ---- `first_ready`
 
-pub record Seeking (p : Problem) (pending activities : List ℕ) (i : ℕ) : Type 0 where
-  pub left : firstReady p pending (drop i activities) ≡ firstReady p pending activities
+pub record Seeking (p : Problem) (pending activities : List ℕ) (from i : ℕ) : Type 0 where
+  pub left : firstReady p pending (drop i activities) ≡ firstReady p pending (drop from activities)
 
-module _ {p : Problem} {pending activities : List ℕ} {i : ℕ} (w : Seeking p pending activities i) where
-  pub none-ready : i ≤ length activities → length activities ≤ i → Nothing ≡ firstReady p pending activities
+module _ {p : Problem} {pending activities : List ℕ} {from i : ℕ} (w : Seeking p pending activities from i) where
+  pub none-ready : i ≤ length activities → length activities ≤ i → Nothing ≡ firstReady p pending (drop from activities)
   unfolding firstReady
   none-ready k h = sym (none-left (firstReady p pending) activities i k h) ∙ w .left
 
   module _ (h : i < length activities) where
-    sought : firstReady p pending (getD activities i 0 ∷ drop (i + 1) activities) ≡ firstReady p pending activities
+    sought : firstReady p pending (getD activities i 0 ∷ drop (i + 1) activities) ≡ firstReady p pending (drop from activities)
     sought = sym (next-of (firstReady p pending) activities i h) ∙ w .left
 
-    pub this-one : true ≡ canCome p pending (getD activities i 0) → To (getD activities i 0) ≡ firstReady p pending activities
+    pub this-one : true ≡ canCome p pending (getD activities i 0) → To (getD activities i 0) ≡ firstReady p pending (drop from activities)
     unfolding firstReady
     this-one e = rw (sym e) at sought
 
-    pub seek-again : false ≡ canCome p pending (getD activities i 0) → Seeking p pending activities (i + 1)
+    pub seek-again : false ≡ canCome p pending (getD activities i 0) → Seeking p pending activities from (i + 1)
     unfolding firstReady
     seek-again e = record { left = rw (sym e) at sought }
+
+-- ---- `skip_taken`
+
+pub record Skipping (pending activities : List ℕ) (from i : ℕ) : Type 0 where
+  pub within : i ≤ length activities
+  pub left : i + takenBefore pending (drop i activities) ≡ from + takenBefore pending (drop from activities)
+
+module _ {pending activities : List ℕ} {from i : ℕ} (w : Skipping pending activities from i) where
+  pub all-skipped : length activities ≤ i → i ≡ from + takenBefore pending (drop from activities)
+  unfolding takenBefore
+  all-skipped h =
+      let z : takenBefore pending (drop i activities) ≡ 0 = none-left (takenBefore pending) activities i (w .within) h in
+      omega (arith, z, w .left)
+
+  module _ (h : i < length activities) where
+    pub skip-end : getD pending (getD activities i 0) 0 ≡ 1 → i ≡ from + takenBefore pending (drop from activities)
+    unfolding takenBefore
+    skip-end e =
+        let z : takenBefore pending (drop i activities) ≡ 0 = next-of (takenBefore pending) activities i h ∙ rw (eq-eqb (getD pending (getD activities i 0) 0) 1 e) refl in
+        omega (arith, z, w .left)
+
+    pub skip-again : (getD pending (getD activities i 0) 0 ≡ 1 → ⊥) → Skipping pending activities from (i + 1)
+    unfolding takenBefore
+    skip-again ne =
+        let z : takenBefore pending (drop i activities) ≡ suc (takenBefore pending (drop (i + 1) activities)) =
+        next-of (takenBefore pending) activities i h ∙ rw (ne-eqb (getD pending (getD activities i 0) 0) 1 ne) refl in
+        record { within = omega arith; left = omega (arith, z, w .left) }
 
 -- ---- `is_ready`, `can_come`
 

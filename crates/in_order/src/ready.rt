@@ -1,9 +1,8 @@
 // The order in which activities are taken: repeatedly the first of the given order that waits for none that is still to come.
 use graph::Link;
 ghost use mathlib.Core.Path.{_≡_};
-ghost use Prim.Native.Nat.{ℕ, _≤_, _<_};
-ghost use mathlib.Core.List.{List};
-ghost use lib.ListN.{length, getD};
+ghost use Prim.Native.Nat.{ℕ, _+_, _≤_, _<_};
+ghost use lib.ListN.{length, getD, drop};
 ghost use Rattle.graph.specs.Counting.{Below};
 ghost use Rattle.plan.specs.Problem.{Problem};
 ghost use Rattle.lines.specs.Linking.{marked};
@@ -11,7 +10,7 @@ ghost use Rattle.tables.specs.Regions.{cells};
 ghost use Rattle.tables.specs.Tabled.{Tabled};
 ghost use Rattle.genes.specs.Held.{Listed};
 ghost use Rattle.in_order.specs.InOrder.{anyPending, earlierPending, isReady, canCome, firstReady, readyOrder};
-ghost use Rattle.in_order.specs.Waiting.{Naming, Flagged, Waiting};
+ghost use Rattle.in_order.specs.Waiting.{takenBefore, Naming, Flagged, Waiting, Ordered};
 
 // Marks all of the order as pending.
 fn mark(activities: &[usize], pending: &mut [usize])
@@ -87,12 +86,28 @@ fn can_come(table: &[usize], pending: &[usize], a: usize) -> bool
     is_ready(table, pending, a)
 }
 
-// The first of the order that is pending and ready.
-fn first_ready(table: &[usize], activities: &[usize], pending: &[usize]) -> Link
-    requires { ⌜ Waiting (now table) (now activities) (now pending) ⌝ }
-    ensures { λ r. ⌜ ((p : Problem) → Naming p (now (table .entry)) → Below (p .n) (now (activities .entry)) → r ≡ firstReady p (now (pending .entry)) (now (activities .entry))) ⌝ }
+// How far the activities from one place on are taken.
+fn skip_taken(activities: &[usize], pending: &[usize], from: usize) -> usize
+    requires { ⌜ Below (length (now pending)) (now activities) × (from ≤ length (now activities)) ⌝ }
+    ensures { λ r. ⌜ r ≡ from + takenBefore (now (pending .entry)) (drop from (now (activities .entry))) ⌝ }
 {
-    let mut i = 0;
+    let mut i = from;
+    while i < activities.len() {
+        let a = activities[i];
+        if pending[a] == 1 {
+            return i;
+        }
+        i += 1;
+    }
+    i
+}
+
+// The first of the order, from one place on, that is pending and ready.
+fn first_ready(table: &[usize], activities: &[usize], pending: &[usize], from: usize) -> Link
+    requires { ⌜ Waiting (now table) (now activities) (now pending) × (from ≤ length (now activities)) ⌝ }
+    ensures { λ r. ⌜ ((p : Problem) → Naming p (now (table .entry)) → Below (p .n) (now (activities .entry)) → r ≡ firstReady p (now (pending .entry)) (drop from (now (activities .entry)))) ⌝ }
+{
+    let mut i = from;
     while i < activities.len() {
         let a = activities[i];
         if can_come(table, pending, a) {
@@ -103,17 +118,20 @@ fn first_ready(table: &[usize], activities: &[usize], pending: &[usize]) -> Link
     Link::Nothing
 }
 
-// Writes the activities in the order in which they are taken, and answers how many they are.
+// Writes the activities in the order in which they are taken, and answers how many they are. All before the front are taken, so that an
+// order in which none waits for a later one is passed once.
 pub fn ready_order(table: &[usize], activities: &[usize], order: &mut [usize]) -> usize
-    requires { ⌜ ((pending : List ℕ) → 128 ≤ length pending → Waiting (now table) (now activities) pending) × (length (now activities) ≤ length (now order)) ⌝ }
+    requires { ⌜ Ordered (now table) (now activities) × (length (now activities) ≤ length (now order)) ⌝ }
     ensures { λ r. ⌜ ((p : Problem) → Naming p (now (table .entry)) → Below (p .n) (now (activities .entry)) → Listed (readyOrder p (now (activities .entry))) (now (order .entry)) (now (order .exit)) r) ⌝ }
     ensures { λ r. ⌜ r ≤ length (now (activities .entry)) ⌝ }
 {
     let mut pending = [0usize; 128];
     mark(activities, &mut pending);
+    let mut front = 0;
     let mut taken = 0;
     while taken < activities.len() {
-        let Link::To(a) = first_ready(table, activities, &pending) else {
+        front = skip_taken(activities, &pending, front);
+        let Link::To(a) = first_ready(table, activities, &pending, front) else {
             return taken;
         };
         order[taken] = a;

@@ -13,11 +13,11 @@ use Rattle.in_order.proofs.ready.first_ready.Statement.{statement}
 use Rattle.in_order.proofs.ready.first_ready.Tie as tie
 
 abbrev Inv-loop : tie.InvT-loop
-Inv-loop table activities pending i₀ i =
-    (i ≤ length activities) × ((p : Problem) → Naming p table → Below (p .n) activities → Seeking p pending activities i)
+Inv-loop table activities pending from i₀ i =
+    (i ≤ length activities) × ((p : Problem) → Naming p table → Below (p .n) activities → Seeking p pending activities from i)
 
 abbrev μ-loop : tie.MeasureT-loop
-μ-loop table activities pending i₀ i =
+μ-loop table activities pending from i₀ i =
     length activities - i
 
 loop-holds : tie.Need-loop-holds Inv-loop μ-loop
@@ -31,7 +31,7 @@ shared-slice-read-a c = omega arith
 
 can-come-requires : tie.Need-can-come-requires Inv-loop μ-loop
 can-come-requires c κs =
-    let k = c .before .before .before .before .before .before .pre in
+    let k = c .before .before .before .before .before .before .pre .0 in
     record { problem = k .problem; naming = k .naming; roomy = k .roomy; here = below-at (k .problem .n) (now (c .before .before .before .before .before .before .args .activities)) (c .before .before .loop .i) (k .known) (c .before .loop-test .taken) }
 
 returns : tie.Need-returns Inv-loop μ-loop
