@@ -1,2 +1,3 @@
 pub mod ReadyLaws
 pub mod TakingLaws
+pub mod OneLaws

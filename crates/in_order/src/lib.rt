@@ -1,4 +1,5 @@
-// The decoder that places in order.
+// The decoder that places in order: repeatedly the first activity that waits for none that is still to come.
+mod placing;
 mod ready;
 
 pub use ready::ready_order;
