@@ -1,3 +1,5 @@
 pub mod ReadyLaws
 pub mod TakingLaws
 pub mod OneLaws
+pub mod OrderLaws
+pub mod SeatingLaws
