@@ -67,3 +67,9 @@ pub way-is : (p : Problem) (g : Genes) → Accepted p g → {rows : List (List �
     → between rows from m ≡ p .transport from m
 way-is p g ok {rows} e from m hf hm =
     ap (λ (x : List (List ℕ)). between x from m) e ∙ between-at (p .transport) (p .machines) (p .machines) from m hf (ok .machines .1) hm (ok .machines .1)
+
+-- What is known of an activity that comes next.
+pub coming-next : (p : Problem) (g : Genes) {b : Board} {a m : ℕ} {step : Link} {from way : ℕ} → Sound (p .n) b → a < p .n → m < p .machines → getD (b .settled) a 0 ≡ 0
+    → step ≡ lastOf p b (p .taskOf a) → from ≡ machineBefore step (assignedTo g) → way ≡ p .transport from m → Coming p g b a m step way
+coming-next p g {b} {a} {m} {step} {from} {way} s h k u e f w =
+    record { sound = s; here = h; there = k; unsettled = u; after = e; moved = w ∙ ap (λ (x : ℕ). p .transport x m) f }

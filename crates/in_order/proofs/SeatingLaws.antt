@@ -87,6 +87,9 @@ module _ {p : Problem} {g : Genes} {ready order₀ order : List ℕ} {b : Board}
     pub has-room : count < length order
     has-room = omega (arith, w .counted, w .roomy, w .sized)
 
+    pub few : take count order ≡ b .order → count < p .n
+    few e = omega (arith, room-left (w .sound) a here unsettled, ap length e, length-take-le count order (omega (arith, has-room)))
+
     -- The next one, once it is placed or settled.
     next : {order′ : List ℕ} {b′ : Board} {count′ : ℕ} → b′ ≡ seatOrSettle p g a (g .assigned a) b → Sound (p .n) b′ → b′ .settled ≡ set (b .settled) a 1
         → count ≤ count′ → count′ ≤ count + 1 → length order′ ≡ length order → ((j : ℕ) → count′ ≤ j → getD order′ j 0 ≡ getD order j 0)
