@@ -12,7 +12,7 @@ use Rattle.timing.specs.Placing.{machineBefore}
 use Rattle.genes.specs.Indexed.{assignedTo}
 use Rattle.board.specs.Board.{Board, emptyBoard, lastOf}
 use Rattle.in_order.specs.InOrder.{isPending}
-use Rattle.board.specs.Sound.{Sound}
+use Rattle.board.specs.Sound.{Sized, Sound}
 
 -- The table holds a problem of no more than 128 activities, who name each other.
 pub record Naming (p : Problem) (table : List ℕ) : Type 0 where
@@ -66,6 +66,13 @@ pub record Upon (n : ℕ) (ready order : List ℕ) (b : Board) : Type 0 where
   pub once : (a : ℕ) → countOf a ready ≤ 1
   pub roomy : length ready ≤ length order
   pub empty : b ≡ emptyBoard n
+
+-- .. upon a board whose cells may hold anything.
+pub record Given (n : ℕ) (ready order : List ℕ) (b : Board) : Type 0 where
+  pub known : Below n ready
+  pub once : (a : ℕ) → countOf a ready ≤ 1
+  pub roomy : length ready ≤ length order
+  pub sized : Sized n b
 
 -- Cells for n rows and for n starts, ends and setups.
 pub record Rooms (n : ℕ) (order starts ends setups : List ℕ) : Type 0 where

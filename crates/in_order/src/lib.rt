@@ -2,4 +2,5 @@
 mod placing;
 mod ready;
 
+pub use placing::place_in_order;
 pub use ready::ready_order;

@@ -16,7 +16,7 @@ ghost use Rattle.genes.specs.Indexed.{indexed, assignedTo};
 ghost use Rattle.genes.specs.Held.{Listed};
 ghost use Rattle.board.specs.Board.{Board, boardOf, emptyBoard, lastPlaced, seat, sit};
 ghost use Rattle.in_order.specs.InOrder.{readyOrder, sitAll, placeInOrder};
-ghost use Rattle.in_order.specs.Waiting.{Coming, Owned, Upon, Rooms, Timed};
+ghost use Rattle.in_order.specs.Waiting.{Coming, Owned, Upon, Given, Rooms, Timed};
 
 // The last placed of an activity's task, of n activities.
 fn step_of(table: &[usize], steps: &[usize], a: usize, n: usize) -> Link
@@ -107,6 +107,32 @@ fn place_ready(
     count
 }
 
+// The same upon cells that may hold anything.
+fn place_all(
+    s: &[u8],
+    z: Layout,
+    table: &[usize],
+    ways: [[u32; 16]; 16],
+    ready: &[usize],
+    order: &mut [usize],
+    starts: &mut [u64],
+    ends: &mut [u64],
+    setups: &mut [u64],
+    lines: &mut [usize],
+    steps: &mut [usize],
+    settled: &mut [usize],
+) -> usize
+    requires { ⌜ Placed z × Accepted (problemOf (words (now s)) z) (genesOf (words (now s)) z) × Tabled (problemOf (words (now s)) z) (now table) × (ways ≡ transportsOf (problemOf (words (now s)) z)) ⌝ }
+    requires { ⌜ Given (z .activities) (now ready) (now order) (boardOf 0 (now order) (now starts) (now ends) (now setups) (now lines) (now steps) (now settled)) ⌝ }
+    ensures board { λ r. ⌜ boardOf r (now (order .exit)) (now (starts .exit)) (now (ends .exit)) (now (setups .exit)) (now (lines .exit)) (now (steps .exit)) (now (settled .exit)) ≡ sitAll (problemOf (words (now (s .entry))) z) (genesOf (words (now (s .entry))) z) (now (ready .entry)) (emptyBoard (z .activities)) ⌝ }
+    ensures order { λ r. ⌜ Listed (sitAll (problemOf (words (now (s .entry))) z) (genesOf (words (now (s .entry))) z) (now (ready .entry)) (emptyBoard (z .activities)) .order) (now (order .entry)) (now (order .exit)) r ⌝ }
+{
+    board::clear(z.activities, starts, ends, setups, lines, steps, settled);
+    place_ready(
+        s, z, table, ways, ready, order, starts, ends, setups, lines, steps, settled,
+    )
+}
+
 // Writes the activities that the genes give, in the order in which they are taken, and answers how many they are.
 fn ready_activities(s: &[u8], z: Layout, table: &[usize], ready: &mut [usize]) -> usize
     requires { ⌜ Placed z × Accepted (problemOf (words (now s)) z) (genesOf (words (now s)) z) × Tabled (problemOf (words (now s)) z) (now table) ⌝ }
@@ -116,4 +142,43 @@ fn ready_activities(s: &[u8], z: Layout, table: &[usize], ready: &mut [usize]) -
     let mut activities = [0usize; 128];
     let given = genes::indexed(s, z, &mut activities);
     ready_order(table, &activities[..given], ready)
+}
+
+// Places in order what the genes give: writes the activities placed, in placing order, and the start, the end and the setup of each by its
+// number, and answers how many are placed.
+pub fn place_in_order(
+    s: &[u8],
+    z: Layout,
+    table: &[usize],
+    ways: [[u32; 16]; 16],
+    order: &mut [usize],
+    starts: &mut [u64],
+    ends: &mut [u64],
+    setups: &mut [u64],
+) -> usize
+    requires { ⌜ Placed z × Accepted (problemOf (words (now s)) z) (genesOf (words (now s)) z) × Tabled (problemOf (words (now s)) z) (now table) × (ways ≡ transportsOf (problemOf (words (now s)) z)) ⌝ }
+    requires { ⌜ Rooms (z .activities) (now order) (now starts) (now ends) (now setups) ⌝ }
+    ensures order { λ r. ⌜ Listed (placeInOrder (problemOf (words (now (s .entry))) z) (genesOf (words (now (s .entry))) z) .order) (now (order .entry)) (now (order .exit)) r ⌝ }
+    ensures times { λ _. ⌜ Timed (placeInOrder (problemOf (words (now (s .entry))) z) (genesOf (words (now (s .entry))) z)) (now (starts .exit)) (now (ends .exit)) (now (setups .exit)) ⌝ }
+{
+    let n = z.activities;
+    let mut ready = [0usize; 128];
+    let given = ready_activities(s, z, table, &mut ready);
+    let mut lines = [0usize; 16];
+    let mut steps = [0usize; 32];
+    let mut settled = [0usize; 128];
+    place_all(
+        s,
+        z,
+        table,
+        ways,
+        &ready[..given],
+        order,
+        starts,
+        ends,
+        setups,
+        &mut lines,
+        &mut steps,
+        &mut settled[..n],
+    )
 }
