@@ -3,3 +3,4 @@ pub mod TakingLaws
 pub mod OneLaws
 pub mod OrderLaws
 pub mod SeatingLaws
+pub mod SheetLaws
