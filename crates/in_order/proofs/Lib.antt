@@ -4,3 +4,4 @@ pub mod OneLaws
 pub mod OrderLaws
 pub mod SeatingLaws
 pub mod SheetLaws
+pub mod CompleteLaws
