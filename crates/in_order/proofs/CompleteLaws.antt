@@ -15,7 +15,7 @@ use Rattle.graph.specs.Arcs.Leads.{one, more}
 use Rattle.graph.specs.Links.{toIf}
 use Rattle.graph.specs.declared.Link.{Link}
 use Rattle.graph.specs.declared.Link.the-variants.{To, Nothing}
-use Rattle.graph.proofs.CountingLaws.{hit-eq, hit-ne, hit-le, hit-pos, either, below-of, count-all, sumTo-ap, sumTo-add}
+use Rattle.graph.proofs.CountingLaws.{hit-eq, hit-ne, hit-le, hit-pos, either, below-of, below-more, count-all, sumTo-ap, sumTo-add}
 use Rattle.graph.proofs.CircleLaws.{circle}
 use Rattle.graph.proofs.NamingLaws.{zeros-at}
 use Rattle.plan.specs.Problem.{Problem}
@@ -26,7 +26,7 @@ use Rattle.lines.specs.Linking.{marked}
 use Rattle.lines.proofs.LinkLaws.{marked-length}
 use Rattle.in_order.specs.InOrder.{isPending, anyPending, earlierPending, isReady, canCome, orElse, firstReady, readyFrom, allPending, readyOrder}
 use Rattle.in_order.proofs.TakingLaws.{first-is, first-pending}
-use Rattle.in_order.proofs.OrderLaws.{ready-once}
+use Rattle.in_order.proofs.OrderLaws.{ready-pending, ready-once}
 
 -- ---- arcs
 
@@ -89,6 +89,35 @@ none-comes p pending (b ∷ l) a e h =
     let deeper = none-comes p pending l a (w .1) in
     either b a (λ q. ap (canCome p pending) (sym q) ∙ w .0) (λ ne. deeper (omega (arith, hit-ne b a ne)))
 
+-- ---- all of the order are pending at first, and no others
+
+marked-in : (ks c : List ℕ) (x : ℕ) → Below (length c) ks → (0 < countOf x ks) ⊎ (getD c x 0 ≡ 1) → getD (marked ks 1 c) x 0 ≡ 1
+unfolding marked countOf Below
+marked-in [] c x b h = ⊎-elim (λ k. absurd (omega arith)) (λ e. e) h
+marked-in (a ∷ ks) c x b h =
+    let deeper = marked-in ks (set c a 1) x (rw (length-set c a 1) (b .1)) in
+    either a x (λ e. deeper (inr (subst (λ (y : ℕ). getD (set c a 1) y 0 ≡ 1) e (getD-set-same c a 1 0 (b .0)))))
+    (λ ne. deeper (⊎-elim (λ k. inl (omega (arith, hit-ne a x ne))) (λ e. inr (getD-set-other c a x 1 0 (λ q. ne (sym q)) ∙ e)) h))
+
+marked-of : (ks c : List ℕ) (x : ℕ) → getD (marked ks 1 c) x 0 ≡ 1 → (0 < countOf x ks) ⊎ (getD c x 0 ≡ 1)
+unfolding marked countOf
+marked-of [] c x e = inr e
+marked-of (a ∷ ks) c x e =
+    let deeper = marked-of ks (set c a 1) x e in
+    either a x (λ q. inl (omega (arith, hit-eq a x q))) (λ ne. ⊎-elim (λ k. inl (omega arith)) (λ z. inr (sym (getD-set-other c a x 1 0 (λ q. ne (sym q))) ∙ z)) deeper)
+
+pub pending-of : (activities : List ℕ) (x : ℕ) → getD (allPending activities) x 0 ≡ 1 → 0 < countOf x activities
+pending-of activities x e = ⊎-elim (λ k. k) (λ z. absurd (omega (arith, z, zeros-at 128 x))) (marked-of activities (replicate 128 0) x e)
+
+sum-most : (k : ℕ) (f g : ℕ → ℕ) → ((i : ℕ) → f i ≤ g i) → sumTo k f ≤ sumTo k g
+unfolding sumTo
+sum-most zero f g h = omega arith
+sum-most (suc k) f g h = omega (arith, sum-most k f g h, h k)
+
+pending-most : (activities : List ℕ) (x : ℕ) → hit (getD (allPending activities) x 0) 1 ≤ countOf x activities
+pending-most activities x =
+    either (getD (allPending activities) x 0) 1 (λ e. omega (arith, hit-le (getD (allPending activities) x 0) 1, pending-of activities x e)) (λ ne. omega (arith, hit-ne (getD (allPending activities) x 0) 1 ne))
+
 module _ (p : Problem) (activities : List ℕ) (known : Below (p .n) activities) (acyclic : Circle (p .n) (Before p) → ⊥) where
   -- only what is in the order is pending
   abbrev Listed : List ℕ → Type 0
@@ -147,3 +176,14 @@ module _ (p : Problem) (activities : List ℕ) (known : Below (p .n) activities)
       let rest = all-come few fuel (set pending a 0) (firstReady p (set pending a 0) activities) refl (length-set pending a 0 ∙ l)
       (λ y q. listed y (still-listed pending a l (omega arith) listed y q .1)) (omega (arith, less)) x in
       either a x (λ q. omega (arith, hit-eq a x q)) (λ ne. omega (arith, rest (getD-set-other pending a x 0 0 (λ q. ne (sym q)) ∙ z)))
+
+  -- Every activity of the order is taken as often as it stands there, which is once at most.
+  pub all-taken : p .n ≤ 128 → ((x : ℕ) → countOf x activities ≤ 1) → (x : ℕ) → countOf x (readyOrder p activities) ≡ countOf x activities
+  all-taken few once x =
+      either (countOf x activities) 0
+      (λ z. omega (arith, z, ready-pending p activities known few x, pending-most activities x))
+      (λ ne.
+      let there : getD (allPending activities) x 0 ≡ 1 = marked-in activities (replicate 128 0) x (below-more (p .n) 128 activities few known) (inl (omega (arith, ne))) in
+      let come = all-come few (length activities) (allPending activities) (firstReady p (allPending activities) activities) refl (marked-length activities 1 (replicate 128 0))
+      (pending-of activities) (omega (arith, sum-most (p .n) (λ y. hit (getD (allPending activities) y 0) 1) (λ y. countOf y activities) (pending-most activities), count-all (p .n) activities known)) x there in
+      omega (arith, ne, once x, come, ready-once p activities known few x))

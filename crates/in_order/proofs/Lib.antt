@@ -5,3 +5,4 @@ pub mod OrderLaws
 pub mod SeatingLaws
 pub mod SheetLaws
 pub mod CompleteLaws
+pub mod Theorem

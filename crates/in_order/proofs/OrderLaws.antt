@@ -56,6 +56,8 @@ module _ (p : Problem) (activities : List ℕ) (known : Below (p .n) activities)
   pub ready-few : length (readyOrder p activities) ≤ length activities
   ready-few = from-few (length activities) (allPending activities) _
 
+  pub ready-pending : p .n ≤ 128 → (x : ℕ) → countOf x (readyOrder p activities) ≤ hit (getD (allPending activities) x 0) 1
+  ready-pending few x = from-once few (length activities) (allPending activities) _ refl (marked-length activities 1 (replicate 128 0)) x
+
   pub ready-once : p .n ≤ 128 → (x : ℕ) → countOf x (readyOrder p activities) ≤ 1
-  ready-once few x =
-      omega (arith, from-once few (length activities) (allPending activities) _ refl (marked-length activities 1 (replicate 128 0)) x, hit-le (getD (allPending activities) x 0) 1)
+  ready-once few x = omega (arith, ready-pending few x, hit-le (getD (allPending activities) x 0) 1)
