@@ -6,3 +6,4 @@ pub mod SeatingLaws
 pub mod SheetLaws
 pub mod CompleteLaws
 pub mod Theorem
+pub mod Worked
