@@ -100,7 +100,21 @@ fn place_ready(
         let from = board::machine_from(s, z, step);
         let way = ways[from][m] as u64;
         place_one(
-            s, z, table, a, m, step, way, count, order, starts, ends, setups, lines, steps, settled,
+            s,
+            z,
+            table,
+            a,
+            m,
+            step,
+            way,
+            count,
+            order,
+            starts,
+            ends,
+            setups,
+            lines,
+            steps,
+            settled,
         );
         count += 1;
     }
@@ -129,7 +143,18 @@ fn place_all(
 {
     board::clear(z.activities, starts, ends, setups, lines, steps, settled);
     place_ready(
-        s, z, table, ways, ready, order, starts, ends, setups, lines, steps, settled,
+        s,
+        z,
+        table,
+        ways,
+        ready,
+        order,
+        starts,
+        ends,
+        setups,
+        lines,
+        steps,
+        settled,
     )
 }
 

@@ -1,3 +1,4 @@
+-- `in_order::placing::place_all` meets its contract: the board is cleared first.
 use denote.Ref.{now}
 use borrow.Author.Needs.{needs}
 use Rattle.in_order.proofs.placing.place_all.Statement.{statement}

@@ -1,3 +1,4 @@
+-- `in_order::placing::place_in_order` meets its contract: all that are ready, placed upon a board of its own.
 use Prim.Native.Nat.{ℕ}
 use mathlib.Core.Path.{_≡_, refl, sym, ap, _∙_}
 use mathlib.Core.List.{List}
@@ -50,13 +51,15 @@ place-all-requires c κs =
     let ok = c .before .before .before .before .before .before .before .before .before .before .before .before .before .before .before .before .before .pre .0 .1 in
     let l = c .before .before .before .before .before .before .before .before .before .ready-activities .ensures .0 in
     let k = c .before .before .before .before .before .before .before .before .before .before .before .before .before .before .before .before .before .pre .1 in
-    let settled : length (take (c .before .before .before .before .before .before .before .before .before .before .before .before .before .before .before .before .before .args .z .activities) (replicate {A = ℕ} 128 0)) ≡ c .before .before .before .before .before .before .before .before .before .before .before .before .before .before .before .before .before .args .z .activities = length-take-le {A = ℕ} (c .before .before .before .before .before .before .before .before .before .before .before .before .before .before .before .before .before .args .z .activities) (replicate 128 0) (omega (arith, c .before .before .before .before .before .before .before .before .before .before .before .before .before .before .before .before .before .pre .0 .0 .activities)) in
-    (c .before .before .before .before .before .before .before .before .before .before .before .before .before .before .before .before .before .pre .0, record {
-      known = rw (l .listed) (ready-below p (indexed p g) (indexed-below ok));
-      once = λ x. rw (l .listed) (ready-once p (indexed p g) (indexed-below ok) (ok .activities .1) x);
-      roomy = omega (arith, ap length (l .listed), l .whole, c .before .before .before .before .before .before .before .before .before .ready-activities .ensures .1, k .ordered);
-      sized = record { starts = k .begun; ends = k .ended; setups = k .prepared; lines = refl; steps = refl; settled = settled };
-    })
+    let settled : length (take (c .before .before .before .before .before .before .before .before .before .before .before .before .before .before .before .before .before .args .z .activities) (replicate {A = ℕ} 128 0)) ≡ c .before .before .before .before .before .before .before .before .before .before .before .before .before .before .before .before .before .args .z .activities = length-take-le {A = ℕ} (c .before .before .before .before .before .before .before .before .before .before .before .before .before .before .before .before .before .args .z .activities) (replicate 128 0) (omega (arith, c .before .before .before .before .before .before .before .before .before .before .before .before .before .before .before .before .before .pre .0 .0 .activities)) in (
+      c .before .before .before .before .before .before .before .before .before .before .before .before .before .before .before .before .before .pre .0,
+      record {
+        known = rw (l .listed) (ready-below p (indexed p g) (indexed-below ok));
+        once = λ x. rw (l .listed) (ready-once p (indexed p g) (indexed-below ok) (ok .activities .1) x);
+        roomy = omega (arith, ap length (l .listed), l .whole, c .before .before .before .before .before .before .before .before .before .ready-activities .ensures .1, k .ordered);
+        sized = record { starts = k .begun; ends = k .ended; setups = k .prepared; lines = refl; steps = refl; settled = settled };
+      },
+    )
 
 same-length : tie.Need-same-length
 same-length c = search needs
@@ -76,9 +79,10 @@ returns c =
     let g = genesOf (words (now (c .before .before .before .before .before .before .before .before .before .before .before .before .before .before .before .before .before .before .before .before .before .before .before .before .before .before .before .before .before .args .s))) (c .before .before .before .before .before .before .before .before .before .before .before .before .before .before .before .before .before .before .before .before .before .before .before .before .before .before .before .before .before .args .z) in
     let ok = c .before .before .before .before .before .before .before .before .before .before .before .before .before .before .before .before .before .before .before .before .before .before .before .before .before .before .before .before .before .pre .0 .1 in
     let l = c .before .before .before .before .before .before .before .before .before .before .before .before .before .before .before .before .before .before .before .before .before .ready-activities .ensures .0 in
-    let e = c .before .before .before .before .before .before .before .before .before .before .before .place-all .ensures .0 ∙ ap (λ (x : List ℕ). sitAll p g x (emptyBoard (p .n))) (l .listed) in
-    (rw (l .listed) at (c .before .before .before .before .before .before .before .before .before .before .before .place-all .ensures .1),
-     record { begun = ap (λ (b : Board). b .starts) e; ended = ap (λ (b : Board). b .ends) e; prepared = ap (λ (b : Board). b .setups) e })
+    let e = c .before .before .before .before .before .before .before .before .before .before .before .place-all .ensures .0 ∙ ap (λ (x : List ℕ). sitAll p g x (emptyBoard (p .n))) (l .listed) in (
+      rw (l .listed) at (c .before .before .before .before .before .before .before .before .before .before .before .place-all .ensures .1),
+      record { begun = ap (λ (b : Board). b .starts) e; ended = ap (λ (b : Board). b .ends) e; prepared = ap (λ (b : Board). b .setups) e },
+    )
 
 pub place-in-order-spec : {M : Type 1} → statement M
 place-in-order-spec =

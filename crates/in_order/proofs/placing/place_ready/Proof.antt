@@ -1,3 +1,4 @@
+-- `in_order::placing::place_ready` meets its contract. The loop's invariant: placing the rest upon the board so far gives what placing all does.
 use Prim.Native.Nat.{ℕ, _-_, _<_}
 use mathlib.Core.Path.{_≡_, refl, sym, ap, _∙_}
 use mathlib.Core.List.{List}
@@ -126,7 +127,7 @@ mul-way c =
     let there = ok .assigned a (c .before .before .before .before .m .given .0 .0) (with-machine (g .assigned a) (c .before .before .before .before .m .given .0 .0) em) in
     let ef = c .machine-from .ensures in
     let from : c .machine-from .result < p .machines = rw ef (from-known p g ok (assignedTo g) (λ q k. assigned-known ok q) (w .sound) (p .taskOf a) es) in
-    omega (arith, from, ok .machines .1)
+    omega (arith, from, there, ok .machines .1)
 
 mul-way-2 : tie.Need-mul-way-2 Inv-loop μ-loop
 mul-way-2 c =
@@ -143,7 +144,7 @@ mul-way-2 c =
     let there = ok .assigned a (c .before .before .before .before .m .given .0 .0) (with-machine (g .assigned a) (c .before .before .before .before .m .given .0 .0) em) in
     let ef = c .machine-from .ensures in
     let from : c .machine-from .result < p .machines = rw ef (from-known p g ok (assignedTo g) (λ q k. assigned-known ok q) (w .sound) (p .taskOf a) es) in
-    omega (arith, there, ok .machines .1)
+    omega (arith, from, there, ok .machines .1)
 
 index-1-way : tie.Need-index-1-way Inv-loop μ-loop
 index-1-way c =
@@ -160,7 +161,7 @@ index-1-way c =
     let there = ok .assigned a (c .before .before .before .before .m .given .0 .0) (with-machine (g .assigned a) (c .before .before .before .before .m .given .0 .0) em) in
     let ef = c .machine-from .ensures in
     let from : c .machine-from .result < p .machines = rw ef (from-known p g ok (assignedTo g) (λ q k. assigned-known ok q) (w .sound) (p .taskOf a) es) in
-    omega (arith, from, ok .machines .1)
+    omega (arith, from, there, ok .machines .1)
 
 index-2-way : tie.Need-index-2-way Inv-loop μ-loop
 index-2-way c =
@@ -177,7 +178,7 @@ index-2-way c =
     let there = ok .assigned a (c .before .before .before .before .m .given .0 .0) (with-machine (g .assigned a) (c .before .before .before .before .m .given .0 .0) em) in
     let ef = c .machine-from .ensures in
     let from : c .machine-from .result < p .machines = rw ef (from-known p g ok (assignedTo g) (λ q k. assigned-known ok q) (w .sound) (p .taskOf a) es) in
-    omega (arith, there, ok .machines .1)
+    omega (arith, from, there, ok .machines .1)
 
 cast-way : tie.Need-cast-way Inv-loop μ-loop
 cast-way c =

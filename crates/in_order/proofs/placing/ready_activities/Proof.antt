@@ -1,3 +1,4 @@
+-- `in_order::placing::ready_activities` meets its contract: what the genes give, then in the order in which they are taken.
 use mathlib.Core.Path.{_≡_, sym, ap, _∙_, subst}
 use mathlib.Core.List.{List}
 use Prim.Native.Nat.{ℕ}
@@ -45,9 +46,10 @@ returns c =
     let p = problemOf (words (now (c .before .before .before .before .before .before .before .before .before .before .before .args .s))) (c .before .before .before .before .before .before .before .before .before .before .before .args .z) in
     let g = genesOf (words (now (c .before .before .before .before .before .before .before .before .before .before .before .args .s))) (c .before .before .before .before .before .before .before .before .before .before .before .args .z) in
     let ok = c .before .before .before .before .before .before .before .before .before .before .before .pre .0 .1 in
-    let l = c .before .before .before .before .before .before .indexed .ensures .0 in
-    (rw (l .listed) at (c .before .before .ready-order .ensures .0 p (naming-of ok (c .before .before .before .before .before .before .before .before .before .before .before .pre .0 .2)) (rw (l .listed) (indexed-below ok))),
-     omega (arith, c .before .before .ready-order .ensures .1, ap length (l .listed), l .whole, c .before .before .before .before .before .before .indexed .ensures .1))
+    let l = c .before .before .before .before .before .before .indexed .ensures .0 in (
+      rw (l .listed) at (c .before .before .ready-order .ensures .0 p (naming-of ok (c .before .before .before .before .before .before .before .before .before .before .before .pre .0 .2)) (rw (l .listed) (indexed-below ok))),
+      omega (arith, c .before .before .ready-order .ensures .1, ap length (l .listed), l .whole, c .before .before .before .before .before .before .indexed .ensures .1),
+    )
 
 pub ready-activities-spec : {M : Type 1} → statement M
 ready-activities-spec =

@@ -1,3 +1,4 @@
+-- `in_order::placing::step_of` meets its contract: the cell of the activity's task.
 use Prim.Native.Nat.{ℕ}
 use mathlib.Core.Path.{_≡_, ap, _∙_}
 use native.Mathlib.Omega.{arith}

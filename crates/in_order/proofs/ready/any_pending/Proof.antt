@@ -1,3 +1,4 @@
+-- `in_order::ready::any_pending` meets its contract. The loop's invariant: one of the rest is pending where one of all is.
 use Prim.Native.Nat.{_-_}
 use mathlib.Core.Path.{refl}
 use native.Mathlib.Omega.{arith}

@@ -1,3 +1,4 @@
+-- `in_order::ready::can_come` meets its contract: it is pending, and ready.
 use denote.Ref.{now}
 use native.Mathlib.Omega.{arith}
 use Rattle.in_order.proofs.ReadyLaws.{not-pending, pending-one}

@@ -1,3 +1,4 @@
+-- `in_order::ready::earlier_pending` meets its contract. The loop's invariant: the steps before this one answer what all earlier steps do.
 use Prim.Native.Nat.{ℕ, _-_, _<_, _≤_}
 use mathlib.Core.Path.{_≡_, refl, sym, _∙_}
 use native.Mathlib.Omega.{arith}

@@ -1,3 +1,4 @@
+-- `in_order::ready::first_ready` meets its contract. The loop's invariant: the first ready of the rest is the first of all.
 use Prim.Native.Nat.{ℕ, _-_, _<_, _≤_}
 use mathlib.Core.Path.{_≡_, refl, sym, _∙_}
 use native.Mathlib.Omega.{arith}

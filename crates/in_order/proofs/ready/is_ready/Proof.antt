@@ -1,3 +1,4 @@
+-- `in_order::ready::is_ready` meets its contract: neither a predecessor nor an earlier step is pending.
 use mathlib.Core.Path.{_≡_, sym, ap, _∙_}
 use mathlib.Core.Bool.{not, true, false}
 use native.Mathlib.Omega.{arith}

@@ -1,3 +1,4 @@
+-- `in_order::ready::mark` meets its contract. The loop's invariant: marking the rest as well leaves what marking all does.
 use Prim.Native.Nat.{_-_}
 use mathlib.Core.Path.{refl}
 use native.Mathlib.Omega.{arith}

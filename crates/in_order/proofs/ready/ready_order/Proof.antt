@@ -1,3 +1,5 @@
+-- `in_order::ready::ready_order` meets its contract. The loop's invariant: what is written, then what is still to come, is the whole order;
+-- and all before the front are taken.
 use Prim.Native.Nat.{ℕ, _-_, _<_, _≤_}
 use mathlib.Core.Path.{_≡_, refl, sym, ap, _∙_}
 use native.Mathlib.Omega.{arith}
@@ -98,9 +100,10 @@ loop-again : tie.Need-loop-again Inv-loop μ-loop
 loop-again c =
     let w = c .before .before .before .before .before .before .before .before .loop .inv in
     let k = c .before .before .before .before .before .before .before .before .before .before .before .before .before .before .before .pre .0 in
-    let known = a-known (w .0) (k .problem) (w .1 (k .problem) (k .naming) (k .known)) (c .before .before .before .before .before .before .before .loop-test .taken) (c .before .before .before .before .before .skip-taken .ensures) (c .before .before .before .first-ready .ensures (k .problem) (k .naming) (k .known)) (k .known) (k .naming .few) (c .before .a .given .1) in
-    (take-again (w .0) (c .before .a .given .0 .0) (c .before .before .before .before .before .before .before .loop-test .taken) (c .before .before .before .before .before .before .before .before .before .before .before .before .before .before .before .pre .1) (c .before .before .before .before .before .skip-taken .ensures) known,
-     λ p n b. come-again (w .0) p (w .1 p n b) (c .before .before .before .before .before .before .before .loop-test .taken) (c .before .before .before .before .before .skip-taken .ensures) (c .before .before .before .first-ready .ensures p n b) (c .before .a .given .1) (omega (arith, w .0 .sized, c .before .before .before .before .before .before .before .loop-test .taken, c .before .before .before .before .before .before .before .before .before .before .before .before .before .before .before .pre .1)))
+    let known = a-known (w .0) (k .problem) (w .1 (k .problem) (k .naming) (k .known)) (c .before .before .before .before .before .before .before .loop-test .taken) (c .before .before .before .before .before .skip-taken .ensures) (c .before .before .before .first-ready .ensures (k .problem) (k .naming) (k .known)) (k .known) (k .naming .few) (c .before .a .given .1) in (
+      take-again (w .0) (c .before .a .given .0 .0) (c .before .before .before .before .before .before .before .loop-test .taken) (c .before .before .before .before .before .before .before .before .before .before .before .before .before .before .before .pre .1) (c .before .before .before .before .before .skip-taken .ensures) known,
+      λ p n b. come-again (w .0) p (w .1 p n b) (c .before .before .before .before .before .before .before .loop-test .taken) (c .before .before .before .before .before .skip-taken .ensures) (c .before .before .before .first-ready .ensures p n b) (c .before .a .given .1) (omega (arith, w .0 .sized, c .before .before .before .before .before .before .before .loop-test .taken, c .before .before .before .before .before .before .before .before .before .before .before .before .before .before .before .pre .1)),
+    )
 
 same-length-2 : tie.Need-same-length-2 Inv-loop μ-loop
 same-length-2 c = omega (arith, c .before .loop .inv .0 .sized)

@@ -1,3 +1,4 @@
+-- `in_order::ready::skip_taken` meets its contract. The loop's invariant: all passed so far are taken.
 use Prim.Native.Nat.{_-_}
 use mathlib.Core.Path.{refl}
 use native.Mathlib.Omega.{arith}
