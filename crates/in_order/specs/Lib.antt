@@ -1,0 +1,3 @@
+pub mod InOrder
+pub mod Waiting
+pub mod WellPlaced
