@@ -1,7 +1,7 @@
 -- Demand 3 for the public call: what an accepted plan's lines come to, told by arcs and bounds.
 use Prim.Native.Nat.{ℕ, _+_, _≤_, _<_}
 use mathlib.Core.Path.{_≡_, refl, sym, ap, _∙_, subst}
-use mathlib.Core.Bool.{Bool, true, false, _&&_}
+use mathlib.Core.Bool.{Bool, true, false, _&&_, false≢true}
 use mathlib.Core.List.{List}
 use native.Mathlib.Omega.{arith}
 use lib.Dec.{leb}
@@ -27,7 +27,6 @@ use Rattle.timing.specs.Timing.{timingOrder, countsFor, contradicts, spanAt, st
 use Rattle.timing.specs.Exactly.{Meeting}
 use Rattle.timing.proofs.LinesShop.{shop, counted}
 use Rattle.timing.proofs.Demand3.{timing-exact}
-use Rattle.timing.proofs.TimedLaws.{false-is-not-true}
 use Rattle.rows.specs.Rows.{Columns, gathered, Roomy}
 use Rattle.rows.proofs.RowLaws.{gathered-at}
 use Rattle.calls.specs.Outcome.{Outcome, no, sheet}
@@ -91,7 +90,7 @@ module _ (p : Problem) (g : Genes) (ok : Accepted p g) (lines : Lines) (w : Well
       record { contradicts = (λ e. c, λ k. refl); otherwise = λ none. absurd (none c) }
   eight-circle false q =
       record {
-        contradicts = (λ e. absurd (sheet-not-8 e), λ k. absurd (false-is-not-true (q ∙ timing-exact p g ok lines w .circle .1 k)));
+        contradicts = (λ e. absurd (sheet-not-8 e), λ k. absurd (false≢true (q ∙ timing-exact p g ok lines w .circle .1 k)));
         otherwise = λ none. rows-least (sym q);
       }
 
