@@ -1,7 +1,7 @@
 -- Lines timed so many times: each time leaves the same.
 use Prim.Native.Nat.{ℕ, zero, suc, _+_, _≤_, _<_}
 use mathlib.Core.Path.{_≡_, refl, sym, ap, _∙_}
-use mathlib.Core.Bool.{Bool, true, false}
+use mathlib.Core.Bool.{Bool, true, false, false≢true}
 use mathlib.Core.List.{List}
 use native.Mathlib.Omega.{arith}
 use lib.ListN.{length, getD}
@@ -14,7 +14,6 @@ use Rattle.lines.specs.Lines.{wellFormed}
 use Rattle.intake.specs.Intake.{problemIn, takenIn}
 use Rattle.timing.specs.Timing.{contradicts, endsOf}
 use Rattle.timing.specs.Placing.{Rooms, Timed}
-use Rattle.timing.proofs.TimedLaws.{false-is-not-true}
 use Rattle.fitness.specs.Fitness.{makespanOf}
 use Rattle.calls.specs.Timing.{makespanOn, lastOf, againIf, takenAgain, zeroUnless}
 
@@ -32,7 +31,7 @@ module _ (p : Problem) (lines : Lines) where
   pub stopped : (times : ℕ) (b : Bool) → b ≡ true → 0 ≡ lastOf times b p lines
   stopped zero b e = refl
   stopped (suc times) true e = refl
-  stopped (suc times) false e = absurd (false-is-not-true e)
+  stopped (suc times) false e = absurd (false≢true e)
 
   pub never-begun : (times : ℕ) → times ≡ 0 → 0 ≡ lastOf times (contradicts p lines) p lines
   never-begun zero e = refl
@@ -40,19 +39,19 @@ module _ (p : Problem) (lines : Lines) where
 
   pub last-is : (times : ℕ) (b : Bool) → (times ≡ 0 → ⊥) → b ≡ false → {x : ℕ} → x ≡ makespanOn p lines → x ≡ lastOf times b p lines
   last-is zero b h e q = absurd (h refl)
-  last-is (suc times) true h e q = absurd (false-is-not-true (sym e))
+  last-is (suc times) true h e q = absurd (false≢true (sym e))
   last-is (suc times) false h e q = q
 
   pub makespan-is : {order begun done : List ℕ} → Timed p lines order begun done → makespanOf p (λ a. getD done a 0) ≡ makespanOn p lines
   makespan-is t = ap (λ (l : List ℕ). makespanOf p (λ a. getD l a 0)) (t .placement .done)
 
   pub unfit : (b : Bool) (times : ℕ) → b ≡ false → 0 ≡ againIf b times p lines
-  unfit true times e = absurd (false-is-not-true (sym e))
+  unfit true times e = absurd (false≢true (sym e))
   unfit false times e = refl
 
   pub fit : (b : Bool) (times : ℕ) → b ≡ true → lastOf times (contradicts p lines) p lines ≡ againIf b times p lines
   fit true times e = refl
-  fit false times e = absurd (false-is-not-true e)
+  fit false times e = absurd (false≢true e)
 
 module _ (s : List ℕ) (lines : Lines) (times : ℕ) {r : Reading} (e : r ≡ takenIn s) where
   pub not-taken : {number place : ℕ} → r .answer ≡ No number place → 0 ≡ takenAgain (takenIn s .answer) times s (takenIn s) lines
@@ -64,9 +63,9 @@ module _ (s : List ℕ) (lines : Lines) (times : ℕ) {r : Reading} (e : r ≡ t
       ∙ ap (λ (x : Answer). takenAgain x times s (takenIn s) lines) (sym a ∙ ap (λ (x : Reading). x .answer) e)
 
 pub too-short : (b : Bool) (x : ℕ) → b ≡ false → 0 ≡ zeroUnless b x
-too-short true x e = absurd (false-is-not-true (sym e))
+too-short true x e = absurd (false≢true (sym e))
 too-short false x e = refl
 
 pub long-enough : (b : Bool) (x : ℕ) → b ≡ true → x ≡ zeroUnless b x
 long-enough true x e = refl
-long-enough false x e = absurd (false-is-not-true e)
+long-enough false x e = absurd (false≢true e)

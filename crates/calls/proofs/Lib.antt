@@ -1,3 +1,5 @@
 pub mod PrefixLaws
 pub mod SheetLaws
 pub mod AgainLaws
+pub mod Demand3
+pub mod OutcomeLaws

@@ -1,12 +1,13 @@
 -- From timed lines to the sheet that is written.
 use Prim.Native.Nat.{ℕ, _+_, _≤_, _<_}
 use mathlib.Core.Path.{_≡_, refl, sym, ap, ap₂, _∙_, subst}
-use mathlib.Core.Bool.{Bool, true, false, not, _&&_}
+use mathlib.Core.Bool.{Bool, true, false, not, _&&_, false≢true}
 use mathlib.Core.List.{List}
 use native.Mathlib.Omega.{arith}
 use lib.ListN.{length, getD, take, replicate}
 use lib.Seq.{ext-getD}
 use Rattle.graph.specs.Counting.{Below}
+use Rattle.graph.proofs.BoolLaws.{denied, granted}
 use Rattle.graph.proofs.Theorem.{order-below}
 use Rattle.graph.proofs.ShopTheorem.{graph}
 use Rattle.plan.specs.Problem.{Problem, Genes}
@@ -19,7 +20,6 @@ use Rattle.timing.specs.Placing.{Seated, Timed}
 use Rattle.timing.proofs.LinesShop.{shop, counted}
 use Rattle.timing.proofs.EndLaws.{ends-most}
 use Rattle.timing.proofs.PlacingLaws.{starts-length}
-use Rattle.timing.proofs.TimedLaws.{false-is-not-true}
 use Rattle.rows.specs.Rows.{Columns, columnsOf, Roomy, Written}
 use Rattle.fitness.specs.Fitness.{fitnessOf}
 use Rattle.fitness.specs.Ended.{Ended}
@@ -82,27 +82,25 @@ written-as {x} {y} {a₀} {m₀} {s₀} {e₀} {u₀} {a} {m} {s} {e} {u} q w = 
 module _ (p : Problem) (lines : Lines) where
   pub eight-answer : (b : Bool) → b ≡ true → Refused 8 0 ≡ answerOf (eightIf b p lines)
   eight-answer true e = refl
-  eight-answer false e = absurd (false-is-not-true e)
+  eight-answer false e = absurd (false≢true e)
 
   pub eight-leaves : (b : Bool) → b ≡ true → {a₀ m₀ s₀ e₀ u₀ : List ℕ} → Leaves (eightIf b p lines) a₀ m₀ s₀ e₀ u₀ a₀ m₀ s₀ e₀ u₀
   eight-leaves true e = record { activities = refl; machines = refl; starts = refl; ends = refl; setups = refl }
-  eight-leaves false e = absurd (false-is-not-true e)
+  eight-leaves false e = absurd (false≢true e)
 
   pub sheet-answer : (b : Bool) → b ≡ false → {n f : ℕ} → n ≡ p .n → f ≡ toBits binary64 (fitnessOn p lines) → Rows n f ≡ answerOf (eightIf b p lines)
-  sheet-answer true e q r = absurd (false-is-not-true (sym e))
+  sheet-answer true e q r = absurd (false≢true (sym e))
   sheet-answer false e q r = ap₂ Rows q r
 
   pub sheet-leaves : (b : Bool) → b ≡ false → {a₀ m₀ s₀ e₀ u₀ a m s e u : List ℕ} → Written (sheetOf p lines) a₀ m₀ s₀ e₀ u₀ a m s e u → Leaves (eightIf b p lines) a₀ m₀ s₀ e₀ u₀ a m s e u
-  sheet-leaves true e w = absurd (false-is-not-true (sym e))
+  sheet-leaves true e w = absurd (false≢true (sym e))
   sheet-leaves false e w = record { activities = w .activities; machines = w .machines; starts = w .starts; ends = w .ends; setups = w .setups }
 
 pub not-not : (b : Bool) {r : Bool} → r ≡ not b → r ≡ true → b ≡ false
-not-not true e q = absurd (false-is-not-true (sym e ∙ q))
-not-not false e q = refl
+not-not b e q = denied b (sym e ∙ q)
 
 pub not-false : (b : Bool) {r : Bool} → r ≡ not b → r ≡ false → b ≡ true
-not-false true e q = refl
-not-false false e q = absurd (false-is-not-true (sym q ∙ e))
+not-false b e q = granted b (sym e ∙ q)
 
 -- ---- fitness
 
@@ -117,29 +115,20 @@ ended p g ok lines w {order} {begun} {done} t =
 pub fitness-is : (p : Problem) (lines : Lines) {order begun done : List ℕ} → Timed p lines order begun done → fitnessOf p (λ a. getD done a 0) ≡ fitnessOn p lines
 fitness-is p lines t = ap (λ (l : List ℕ). fitnessOf p (λ a. getD l a 0)) (t .placement .done)
 
--- What the test of a negation says.
-pub denied : (r : Bool) → not r ≡ true → r ≡ false
-denied true e = absurd (false-is-not-true e)
-denied false e = refl
-
-pub granted : (r : Bool) → not r ≡ false → r ≡ true
-granted true e = refl
-granted false e = absurd (false-is-not-true (sym e))
-
 -- ---- number 7
 
 module _ (p : Problem) (lines : Lines) where
   pub seven-answer : (b : Bool) → b ≡ false → Refused 7 0 ≡ answerOf (sevenUnless b p lines)
-  seven-answer true e = absurd (false-is-not-true (sym e))
+  seven-answer true e = absurd (false≢true (sym e))
   seven-answer false e = refl
 
   pub seven-leaves : (b : Bool) → b ≡ false → {a₀ m₀ s₀ e₀ u₀ : List ℕ} → Leaves (sevenUnless b p lines) a₀ m₀ s₀ e₀ u₀ a₀ m₀ s₀ e₀ u₀
-  seven-leaves true e = absurd (false-is-not-true (sym e))
+  seven-leaves true e = absurd (false≢true (sym e))
   seven-leaves false e = record { activities = refl; machines = refl; starts = refl; ends = refl; setups = refl }
 
   pub timed-on : (b : Bool) → b ≡ true → eightIf (contradicts p lines) p lines ≡ sevenUnless b p lines
   timed-on true e = refl
-  timed-on false e = absurd (false-is-not-true e)
+  timed-on false e = absurd (false≢true e)
 
 pub leaves-as : {x y : Outcome} {a₀ m₀ s₀ e₀ u₀ a m s e u : List ℕ} → x ≡ y → Leaves x a₀ m₀ s₀ e₀ u₀ a m s e u → Leaves y a₀ m₀ s₀ e₀ u₀ a m s e u
 leaves-as {x} {y} {a₀} {m₀} {s₀} {e₀} {u₀} {a} {m} {s} {e} {u} q w = subst (λ (o : Outcome). Leaves o a₀ m₀ s₀ e₀ u₀ a m s e u) q w
@@ -148,20 +137,20 @@ leaves-as {x} {y} {a₀} {m₀} {s₀} {e₀} {u₀} {a} {m} {s} {e} {u} q w = s
 
 module _ (o : Outcome) where
   pub six-answer : (b : Bool) → b ≡ false → Refused 6 0 ≡ answerOf (sixUnless b o)
-  six-answer true e = absurd (false-is-not-true (sym e))
+  six-answer true e = absurd (false≢true (sym e))
   six-answer false e = refl
 
   pub six-leaves : (b : Bool) → b ≡ false → {a₀ m₀ s₀ e₀ u₀ : List ℕ} → Leaves (sixUnless b o) a₀ m₀ s₀ e₀ u₀ a₀ m₀ s₀ e₀ u₀
-  six-leaves true e = absurd (false-is-not-true (sym e))
+  six-leaves true e = absurd (false≢true (sym e))
   six-leaves false e = record { activities = refl; machines = refl; starts = refl; ends = refl; setups = refl }
 
   pub roomy-on : (b : Bool) → b ≡ true → o ≡ sixUnless b o
   roomy-on true e = refl
-  roomy-on false e = absurd (false-is-not-true e)
+  roomy-on false e = absurd (false≢true e)
 
 both : (b c : Bool) → (b && c) ≡ true → (b ≡ true) × (c ≡ true)
 both true c e = (refl, e)
-both false c e = absurd (false-is-not-true e)
+both false c e = absurd (false≢true e)
 
 pub roomy-means : (cells a m s e u : List ℕ) → (leb 2048 (length cells) && roomy a m s e u) ≡ true → (2048 ≤ length cells) × Roomy 128 a m s e u
 roomy-means cells a m s e u q =
@@ -200,14 +189,14 @@ module _ (s : List ℕ) (lines : Lines) {r : Reading} (e : r ≡ takenIn s) wher
 module _ (p : Problem) (g : Genes) where
   pub missed-answer : (b : Bool) → b ≡ true → Refused 7 0 ≡ answerOf (sevenIf b p g)
   missed-answer true e = refl
-  missed-answer false e = absurd (false-is-not-true e)
+  missed-answer false e = absurd (false≢true e)
 
   pub missed-leaves : (b : Bool) → b ≡ true → {a₀ m₀ s₀ e₀ u₀ : List ℕ} → Leaves (sevenIf b p g) a₀ m₀ s₀ e₀ u₀ a₀ m₀ s₀ e₀ u₀
   missed-leaves true e = record { activities = refl; machines = refl; starts = refl; ends = refl; setups = refl }
-  missed-leaves false e = absurd (false-is-not-true e)
+  missed-leaves false e = absurd (false≢true e)
 
   pub dealt-on : (b : Bool) → b ≡ false → {lines : Lines} → lines ≡ linesOfGenes p g → eightIf (contradicts p lines) p lines ≡ sevenIf b p g
-  dealt-on true e q = absurd (false-is-not-true (sym e))
+  dealt-on true e q = absurd (false≢true (sym e))
   dealt-on false e q = ap (λ (l : Lines). eightIf (contradicts p l) p l) q
 
 module _ (s : List ℕ) {r : Reading} (e : r ≡ takenIn s) where

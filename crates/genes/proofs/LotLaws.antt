@@ -1,23 +1,19 @@
 -- What the lines of the genes come to: none where something is missing, else those that were dealt.
 use Prim.Native.Nat.{ℕ, zero, suc, _≤_, _<_}
 use mathlib.Core.Path.{_≡_, refl, sym, ap, _∙_}
-use mathlib.Core.Bool.{Bool, true, false, not}
+use mathlib.Core.Bool.{true, false, not, false≢true}
 use mathlib.Core.List.{List}
-use native.Mathlib.Omega.{arith}
 use lib.ListN.{length, replicate}
-use Rattle.graph.specs.Counting.{Below, bit}
+use Rattle.graph.specs.Counting.{Below}
 use Rattle.plan.specs.Problem.{Problem, Genes}
 use Rattle.lines.specs.Lines.{linesIn}
 use Rattle.genes.specs.Indexed.{misses, linesOfGenes}
 use Rattle.genes.specs.Lot.{Lines}
 use Rattle.genes.specs.declared.Lot.{Lot}
 
-never : false ≡ true → ⊥
-never e = let z : _≡_ {A = ℕ} 0 1 = ap bit e in omega arith
-
 module _ (p : Problem) (g : Genes) {cells : List ℕ} where
   pub no-lot : (lot : Lot) → lot .whole ≡ false → misses p g ≡ true → Lines p g cells lot
-  no-lot lot w m = record { whole = w ∙ ap not (sym m); held = λ e. absurd (never (sym w ∙ e)) }
+  no-lot lot w m = record { whole = w ∙ ap not (sym m); held = λ e. absurd (false≢true (sym w ∙ e)) }
 
   pub whole-lot : (lot : Lot) → lot .whole ≡ true → misses p g ≡ false → linesIn cells (lot .lens) ≡ linesOfGenes p g → Lines p g cells lot
   whole-lot lot w m l = record { whole = w ∙ ap not (sym m); held = λ e. l }
@@ -26,11 +22,3 @@ pub zeros-below : (n k : ℕ) → 0 < k → Below k (replicate n 0)
 unfolding Below
 zeros-below zero k h = tt
 zeros-below (suc n) k h = (h, zeros-below n k h)
-
-pub denied : (r : Bool) → not r ≡ true → r ≡ false
-denied true e = absurd (never e)
-denied false e = refl
-
-pub granted : (r : Bool) → not r ≡ false → r ≡ true
-granted true e = refl
-granted false e = absurd (never (sym e))

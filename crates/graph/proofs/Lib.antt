@@ -1,3 +1,4 @@
+pub mod BoolLaws
 pub mod CountingLaws
 pub mod CircleLaws
 pub mod Invariant

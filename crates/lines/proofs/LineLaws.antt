@@ -104,7 +104,8 @@ holder-below (l ∷ lines) m R a h idle =
     rw (lt-ltb 0 (countOf a l) (omega arith))
     (either (R - m) 0 (λ e. absurd (omega (arith, idle 0 (omega arith), count-length a l))) (λ ne. omega arith)))
 
-placed-on : (l : List ℕ) (a : ℕ) → 0 < countOf a l → (placeOn l a < length l) × (getD l (placeOn l a) 0 ≡ a)
+-- where an activity stands on a line
+pub placed-on : (l : List ℕ) (a : ℕ) → 0 < countOf a l → (placeOn l a < length l) × (getD l (placeOn l a) 0 ≡ a)
 unfolding placeOn countOf
 placed-on [] a h = absurd (omega arith)
 placed-on (x ∷ l) a h =

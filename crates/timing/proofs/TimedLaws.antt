@@ -9,7 +9,7 @@ use lib.Dec.{ltb}
 use lib.ListN.{length, getD, take, set, length-set}
 use lib.Seq.{take-all, length-take-le, ext-getD, getD-set-same, getD-set-other}
 use Rattle.graph.specs.Links.{linkOf}
-use Rattle.graph.specs.Counting.{Below, bit}
+use Rattle.graph.specs.Counting.{Below}
 use Rattle.graph.specs.Links.{linked}
 use Rattle.graph.proofs.CountingLaws.{either}
 use Rattle.plan.specs.Problem.{Problem, Genes}
@@ -24,13 +24,6 @@ use Rattle.intake.proofs.BareShop.{each-at, length-each}
 use Rattle.timing.specs.Timing.{timingOrder, contradicts, setupAt, setupsOf}
 use Rattle.timing.specs.Ordering.{Neighbours}
 use Rattle.timing.specs.Placing.{Seated, Whole}
-
-pub false-is-not-true : false ≡ true → ⊥
-false-is-not-true e = let z : _≡_ {A = ℕ} 0 1 = ap bit e in omega arith
-
--- Lines on the first R of sixteen machines are lines on sixteen.
-pub on-sixteen : {n R : ℕ} {lines : Lines} → R ≤ 16 → WellFormed n R lines → WellFormed n 16 lines
-on-sixteen h w = record { once = w .once; known = w .known; short = w .short; idle = λ m l. w .idle m (omega arith) }
 
 module _ {n : ℕ} {lines : Lines} {before after machines places : List ℕ} (held : LinesHeld n lines (linksOf before after machines places)) where
   whole-link : (links : List ℕ) → length links ≡ n → (a : ℕ) → linkOf (take n links) a ≡ linkOf links a

@@ -40,10 +40,6 @@ countsFor p lines = each (λ a. length (waitsFor p lines a)) (p .n) 0
 abbrev pub timingOrder : Problem → Lines → List ℕ
 timingOrder p lines = orderOf (frees p lines) (p .n) (countsFor p lines)
 
--- Number 8: the order leaves an activity out.
-abbrev pub contradicts : Problem → Lines → Bool
-contradicts p lines = ltb (length (timingOrder p lines)) (p .n)
-
 -- The start that the ends of the others allow.
 abbrev pub startBy : Problem → Lines → Rule
 startBy p lines a ends =
@@ -66,3 +62,7 @@ endsOf p lines = endsBy p lines (startsOf p lines)
 
 abbrev pub setupsOf : Problem → Lines → List ℕ
 setupsOf p lines = each (setupAt p lines) (p .n) 0
+
+-- Number 8: the order leaves an activity out.
+abbrev pub contradicts : Problem → Lines → Bool
+contradicts p lines = ltb (length (timingOrder p lines)) (p .n)

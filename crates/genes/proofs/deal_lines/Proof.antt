@@ -7,7 +7,8 @@ use Rattle.words.specs.Words.{words}
 use Rattle.plan.specs.Input.{problemOf, genesOf}
 use Rattle.genes.proofs.LinesLaws.{misses-machine, misses-naming, misses-nothing, genes-dealable, genes-dealt}
 use Rattle.genes.proofs.MachineLaws.{manned-whole}
-use Rattle.genes.proofs.LotLaws.{no-lot, whole-lot, zeros-below, denied, granted}
+use Rattle.graph.proofs.BoolLaws.{denied, granted}
+use Rattle.genes.proofs.LotLaws.{no-lot, whole-lot, zeros-below}
 use borrow.Author.Needs.{needs}
 use Rattle.genes.proofs.deal_lines.Statement.{statement}
 use Rattle.genes.proofs.deal_lines.Tie as tie

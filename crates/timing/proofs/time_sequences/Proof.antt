@@ -1,12 +1,14 @@
 use Prim.Native.Nat.{ℕ, _≤_, _<_}
 use mathlib.Core.Path.{_≡_, sym, ap, _∙_}
+use mathlib.Core.Bool.{false≢true}
 use native.Mathlib.Omega.{arith}
 use denote.Ref.{now}
 use lib.ListN.{length}
 use Rattle.words.specs.Words.{words}
 use Rattle.plan.specs.Input.{problemOf, genesOf}
 use Rattle.lines.specs.Lines.{linesIn}
-use Rattle.timing.proofs.TimedLaws.{false-is-not-true, on-sixteen, neighbours, seated, short-contradicts, full-agrees, full-whole}
+use Rattle.lines.proofs.LinkingLoops.{more-machines}
+use Rattle.timing.proofs.TimedLaws.{neighbours, seated, short-contradicts, full-agrees, full-whole}
 use borrow.Author.Needs.{needs}
 use Rattle.timing.proofs.time_sequences.Statement.{statement}
 use Rattle.timing.proofs.time_sequences.Tie as tie
@@ -17,7 +19,7 @@ link-lines-requires c κs =
     let p = problemOf (words (now (b .args .s))) (b .args .z) in
     let lines = linesIn (now (b .args .cells)) (b .args .lens) in
     let room = b .pre .1 .2 in
-    (b .pre .1 .0, on-sixteen (b .pre .0 .1 .machines .1) (b .pre .1 .1), record { before = omega (arith, room); after = omega (arith, room); machines = omega (arith, room); places = omega (arith, room) })
+    (b .pre .1 .0, more-machines 16 (b .pre .0 .1 .machines .1) (b .pre .1 .1), record { before = omega (arith, room); after = omega (arith, room); machines = omega (arith, room); places = omega (arith, room) })
 
 timing-order-requires : tie.Need-timing-order-requires
 timing-order-requires c κs =
@@ -58,7 +60,7 @@ returns c =
     let machines = k .kept .1 .1 .1 .1 .1 .0 ∙ room .length-machines in
     let o = c .before .before .before .timing-order in
     let sized = o .kept .1 .1 .1 .1 .1 .1 .1 .0 ∙ room .length-order in
-    (short-contradicts p lines (o .last .1 .1 .1 .1 .1 .1 .1 .0) (o .ensures .0) sized (c .if1 .taken), (k .ensures, λ e. absurd (false-is-not-true e)))
+    (short-contradicts p lines (o .last .1 .1 .1 .1 .1 .1 .1 .0) (o .ensures .0) sized (c .if1 .taken), (k .ensures, λ e. absurd (false≢true e)))
 
 place-requires : tie.Need-place-requires
 place-requires c κs =

@@ -7,7 +7,8 @@ use Rattle.plan.specs.Input.{problemOf, genesOf}
 use Rattle.lines.specs.Lines.{linesIn}
 use Rattle.timing.specs.Timing.{contradicts}
 use Rattle.fitness.specs.declared.Sums.{Sums}
-use Rattle.calls.proofs.SheetLaws.{denied, granted, not-not, not-false, ended}
+use Rattle.graph.proofs.BoolLaws.{denied, granted}
+use Rattle.calls.proofs.SheetLaws.{not-not, not-false, ended}
 use Rattle.calls.proofs.AgainLaws.{Going, begin, stopped, never-begun, last-is, makespan-is}
 use borrow.Author.Needs.{needs}
 use Rattle.calls.proofs.again.repeat_in.Statement.{statement}

@@ -8,7 +8,7 @@ use Rattle.plan.specs.Input.{problemOf, genesOf}
 use Rattle.lines.specs.Lines.{linesIn, wellFormed}
 use Rattle.lines.proofs.TestLaws.{test-sound}
 use Rattle.calls.proofs.PrefixLaws.{lent}
-use Rattle.calls.proofs.SheetLaws.{denied, granted}
+use Rattle.graph.proofs.BoolLaws.{denied, granted}
 use Rattle.calls.proofs.AgainLaws.{unfit, fit}
 use borrow.Author.Needs.{needs}
 use Rattle.calls.proofs.again.repeat_known.Statement.{statement}

@@ -10,7 +10,8 @@ use Rattle.words.specs.Words.{words}
 use Rattle.plan.specs.Input.{problemOf}
 use Rattle.calls.specs.Outcome.{answerOf}
 use Rattle.calls.specs.Timing.{timedLines, timedPlan, roomy}
-use Rattle.calls.proofs.SheetLaws.{denied, granted, six-answer, six-leaves, roomy-on, roomy-means, not-taken, taken, taken-asks, leaves-as}
+use Rattle.graph.proofs.BoolLaws.{denied, granted}
+use Rattle.calls.proofs.SheetLaws.{six-answer, six-leaves, roomy-on, roomy-means, not-taken, taken, taken-asks, leaves-as}
 use borrow.Author.Needs.{needs}
 use Rattle.calls.proofs.timed.time.Statement.{statement}
 use Rattle.calls.proofs.timed.time.Tie as tie

@@ -6,7 +6,8 @@ use Rattle.plan.specs.Input.{problemOf, genesOf}
 use Rattle.genes.specs.Indexed.{misses}
 use Rattle.genes.proofs.LinesLaws.{genes-well-formed}
 use Rattle.calls.specs.Outcome.{answerOf}
-use Rattle.calls.proofs.SheetLaws.{denied, granted, not-not, not-false, missed-answer, missed-leaves, dealt-on, leaves-as}
+use Rattle.graph.proofs.BoolLaws.{denied, granted}
+use Rattle.calls.proofs.SheetLaws.{not-not, not-false, missed-answer, missed-leaves, dealt-on, leaves-as}
 use borrow.Author.Needs.{needs}
 use Rattle.calls.proofs.timed.time_genes.Statement.{statement}
 use Rattle.calls.proofs.timed.time_genes.Tie as tie

@@ -7,7 +7,8 @@ use Rattle.plan.specs.Input.{problemOf, genesOf}
 use Rattle.lines.specs.Lines.{linesIn}
 use Rattle.timing.specs.Timing.{contradicts}
 use Rattle.timing.proofs.TimedLaws.{seated}
-use Rattle.calls.proofs.SheetLaws.{eight-answer, eight-leaves, sheet-answer, sheet-leaves, not-not, not-false, ended, fitness-is, denied, granted}
+use Rattle.graph.proofs.BoolLaws.{denied, granted}
+use Rattle.calls.proofs.SheetLaws.{eight-answer, eight-leaves, sheet-answer, sheet-leaves, not-not, not-false, ended, fitness-is}
 use borrow.Author.Needs.{needs}
 use Rattle.calls.proofs.timed.time_in.Statement.{statement}
 use Rattle.calls.proofs.timed.time_in.Tie as tie

@@ -6,7 +6,8 @@ use Rattle.plan.specs.Input.{problemOf, genesOf}
 use Rattle.lines.specs.Lines.{linesIn, wellFormed}
 use Rattle.lines.proofs.TestLaws.{test-sound}
 use Rattle.calls.specs.Outcome.{answerOf}
-use Rattle.calls.proofs.SheetLaws.{denied, granted, seven-answer, seven-leaves, timed-on, leaves-as}
+use Rattle.graph.proofs.BoolLaws.{denied, granted}
+use Rattle.calls.proofs.SheetLaws.{seven-answer, seven-leaves, timed-on, leaves-as}
 use borrow.Author.Needs.{needs}
 use Rattle.calls.proofs.timed.time_known.Statement.{statement}
 use Rattle.calls.proofs.timed.time_known.Tie as tie

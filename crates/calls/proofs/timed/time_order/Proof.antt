@@ -6,7 +6,8 @@ use Rattle.words.specs.Words.{words}
 use Rattle.plan.specs.Input.{problemOf, genesOf}
 use Rattle.calls.specs.Outcome.{answerOf}
 use Rattle.calls.specs.Timing.{timedGenes, orderedPlan, roomy}
-use Rattle.calls.proofs.SheetLaws.{denied, granted, six-answer, six-leaves, roomy-on, rows-room, not-ordered, ordered, taken-asks, leaves-as}
+use Rattle.graph.proofs.BoolLaws.{denied, granted}
+use Rattle.calls.proofs.SheetLaws.{six-answer, six-leaves, roomy-on, rows-room, not-ordered, ordered, taken-asks, leaves-as}
 use borrow.Author.Needs.{needs}
 use Rattle.calls.proofs.timed.time_order.Statement.{statement}
 use Rattle.calls.proofs.timed.time_order.Tie as tie
