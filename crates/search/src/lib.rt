@@ -1,7 +1,9 @@
 // The search: steps that try moves on timed lines and make the best of them.
+mod saving;
 mod survey;
 
 use ranking::Three;
+pub use saving::save;
 pub use survey::find_moves;
 
 // The moves that a step tries: block moves, then moves to other machines.
