@@ -1,0 +1,4 @@
+pub mod WeighLaws
+pub mod TimeLaws
+pub mod TryLaws
+pub mod TabooLaws

@@ -1,0 +1,2 @@
+pub mod Taboo
+pub mod Trial
