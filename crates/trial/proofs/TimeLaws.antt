@@ -47,7 +47,10 @@ module _ (cells lens cells′ lens′ : List ℕ) (m back : Move) (sixteen : len
       let u = undone-in cells lens cells′ lens′ m sixteen f there cells″ lens″ (e ∙ ap (λ (x : Move). applied x (linesIn cells′ lens′)) q) in
       ap (λ (l : List ℕ). linesIn cells″ l) (sym (u .1)) ∙ u .0
 
--- ---- ends
+-- ---- timed lines
+
+pub timed-on : {p : Problem} {l l′ : Lines} {order starts ends : List ℕ} → l ≡ l′ → Timed p l order starts ends → Timed p l′ order starts ends
+timed-on {p} {l} {l′} {order} {starts} {ends} q t = subst (λ (x : Lines). Timed p x order starts ends) q t
 
 pub ended : (p : Problem) (g : Genes) (ok : Accepted p g) (lines : Lines) (w : WellFormed (p .n) (p .machines) lines) {order starts ends : List ℕ}
     → Timed p lines order starts ends → Ended (p .n) ends

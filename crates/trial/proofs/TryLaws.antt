@@ -41,6 +41,9 @@ pub allowed-now : {R k : ℕ} {lines : Lines} {three : Three} (now : Lines) (rat
 allowed-now {R} {k} {lines} now rated e a h q =
     rw e (subst (λ (x : Rated). Allowed R lines (x .made)) (sym q) (a .each k h rated))
 
+pub holding-on : {p : Problem} {l l′ : Lines} {b : Best} {o s e : List ℕ} → l ≡ l′ → Holding p l b o s e → Holding p l′ b o s e
+holding-on {p} {l} {l′} {b} {o} {s} {e} q h = subst (λ (x : Lines). Holding p x b o s e) q h
+
 pub rooms-kept : {n : ℕ} {b a m p o s e b′ a′ m′ p′ o′ s′ e′ : List ℕ} → Rooms n b a m p o s e
     → length b′ ≡ length b → length a′ ≡ length a → length m′ ≡ length m → length p′ ≡ length p → length o′ ≡ length o → length s′ ≡ length s → length e′ ≡ length e → Rooms n b′ a′ m′ p′ o′ s′ e′
 rooms-kept r hb ha hm hp ho hs he =

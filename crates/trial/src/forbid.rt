@@ -47,13 +47,27 @@ fn either_way(places: [Taboo; 6], step: usize, two: Pairing) -> bool
 }
 
 // Whether a move is forbidden for now: a block move by its pair, a reassignment by its activity and target.
-pub fn is_forbidden(m: Move, step: usize, pairs: [Taboo; 6], left: [Taboo; 6], cells: &[usize]) -> bool
+pub fn is_forbidden(
+    m: Move,
+    step: usize,
+    pairs: [Taboo; 6],
+    left: [Taboo; 6],
+    cells: &[usize],
+) -> bool
     requires { ⌜ (length (now cells) ≡ 2048) × Reads m ⌝ }
     ensures { λ r. ⌜ r ≡ forbidden step pairs left (stretches (now (cells .entry))) m ⌝ }
 {
     match m {
-        Move::Swap(machine, at) => either_way(pairs, step, moves::pair(Move::Swap(machine, at), cells)),
-        Move::Shift(machine, from, to) => either_way(pairs, step, moves::pair(Move::Shift(machine, from, to), cells)),
+        Move::Swap(machine, at) => either_way(
+            pairs,
+            step,
+            moves::pair(Move::Swap(machine, at), cells),
+        ),
+        Move::Shift(machine, from, to) => either_way(
+            pairs,
+            step,
+            moves::pair(Move::Shift(machine, from, to), cells),
+        ),
         Move::Reassign(a, _, _, new, _) => listed(left, step, a, new),
     }
 }
@@ -79,7 +93,11 @@ pub fn pairs_after(m: Move, step: usize, pairs: [Taboo; 6], cells: &[usize]) -> 
 {
     match m {
         Move::Swap(machine, at) => list(pairs, step, moves::pair(Move::Swap(machine, at), cells)),
-        Move::Shift(machine, from, to) => list(pairs, step, moves::pair(Move::Shift(machine, from, to), cells)),
+        Move::Shift(machine, from, to) => list(
+            pairs,
+            step,
+            moves::pair(Move::Shift(machine, from, to), cells),
+        ),
         Move::Reassign(_, _, _, _, _) => pairs,
     }
 }

@@ -1,3 +1,4 @@
+-- `trial::beats` meets its contract. Assumes nothing.
 
 use borrow.Author.Needs.{needs}
 use Rattle.trial.proofs.beats.Statement.{statement}

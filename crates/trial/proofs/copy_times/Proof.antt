@@ -1,3 +1,4 @@
+-- `trial::copy_times` meets its contract. The loop's invariant: the cells passed are filled from the other list. Assumes nothing.
 use Prim.Native.Nat.{_≤_, _-_}
 use mathlib.Core.Path.{_≡_, refl}
 use native.Mathlib.Omega.{arith}

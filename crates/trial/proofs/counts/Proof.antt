@@ -1,3 +1,4 @@
+-- `trial::counts` meets its contract, a case for each test. Assumes nothing.
 use mathlib.Core.Bool.{true, false}
 use mathlib.Core.Path.{_≡_}
 use Rattle.trial.proofs.WeighLaws.{denied, granted}

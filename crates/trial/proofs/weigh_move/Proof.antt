@@ -1,3 +1,4 @@
+-- `trial::weigh_move` meets its contract: what is held and what is kept go by one test. Assumes nothing.
 use mathlib.Core.Bool.{true, false}
 use mathlib.Core.Path.{_≡_, sym, ap, _∙_}
 use denote.Ref.{now}

@@ -1,3 +1,4 @@
+-- `trial::forbid::either_way` meets its contract. Assumes nothing.
 use mathlib.Core.Path.{sym, _∙_}
 use borrow.Author.Needs.{needs}
 use Rattle.trial.proofs.forbid.either_way.Statement.{statement}

@@ -1,3 +1,4 @@
+-- `trial::forbid::left_after` meets its contract. Assumes nothing.
 
 use borrow.Author.Needs.{needs}
 use Rattle.trial.proofs.forbid.left_after.Statement.{statement}

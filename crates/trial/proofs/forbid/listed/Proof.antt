@@ -1,3 +1,4 @@
+-- `trial::forbid::listed` meets its contract. The loop's invariant: the places left list what all of them list. Assumes nothing.
 use Prim.Native.Nat.{_+_, _-_, _≤_}
 use mathlib.Core.Path.{_≡_, refl, sym, _∙_}
 use native.Mathlib.Omega.{arith}
