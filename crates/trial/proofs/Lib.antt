@@ -2,3 +2,5 @@ pub mod WeighLaws
 pub mod TimeLaws
 pub mod TryLaws
 pub mod TabooLaws
+pub mod SixPlaces
+pub mod Worked
