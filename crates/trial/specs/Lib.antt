@@ -1,0 +1,3 @@
+pub mod Taboo
+pub mod History
+pub mod Trial
