@@ -196,7 +196,8 @@ cast-way c =
     let ef = c .before .machine-from .ensures in
     let from : c .before .machine-from .result < p .machines = rw ef (from-known p g ok (assignedTo g) (λ q k. assigned-known ok q) (w .sound) (p .taskOf a) es) in
     let ew = way-is p g ok (c .before .before .before .before .before .before .before .before .before .before .before .before .before .before .before .before .before .before .before .before .before .pre .0 .3) (c .before .machine-from .result) (c .before .before .before .before .before .m .given .0 .0) from there in
-    omega (arith, ew, ok .transport (c .before .machine-from .result) (c .before .before .before .before .before .m .given .0 .0) from there)
+    let back = way-is p g ok (c .before .before .before .before .before .before .before .before .before .before .before .before .before .before .before .before .before .before .before .before .before .pre .0 .3) (c .before .before .before .before .before .m .given .0 .0) (c .before .machine-from .result) there from in
+    omega (arith, ew, ok .transport (c .before .machine-from .result) (c .before .before .before .before .before .m .given .0 .0) from there, back, ok .transport (c .before .before .before .before .before .m .given .0 .0) (c .before .machine-from .result) there from)
 
 place-one-requires : tie.Need-place-one-requires Inv-loop μ-loop
 place-one-requires c κs =
