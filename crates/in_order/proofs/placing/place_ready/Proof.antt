@@ -1,6 +1,6 @@
 -- `in_order::placing::place_ready` meets its contract. The loop's invariant: placing the rest upon the board so far gives what placing all does.
 use Prim.Native.Nat.{ℕ, _-_, _<_}
-use mathlib.Core.Path.{_≡_, refl, sym, ap, _∙_}
+use mathlib.Core.Path.{refl, sym, ap, _∙_}
 use mathlib.Core.List.{List}
 use native.Mathlib.Omega.{arith}
 use denote.Ref.{now}
@@ -9,7 +9,7 @@ use Rattle.words.specs.Words.{words}
 use Rattle.plan.specs.Input.{problemOf, genesOf}
 use Rattle.genes.specs.Indexed.{assignedTo}
 use Rattle.genes.proofs.MachineLaws.{assigned-known}
-use Rattle.board.specs.Board.{Board, boardOf}
+use Rattle.board.specs.Board.{boardOf}
 use Rattle.board.proofs.SeatLaws.{with-machine, last-below}
 use Rattle.board.proofs.BoardLaws.{from-known}
 use Rattle.in_order.proofs.OneLaws.{way-is, coming-next, placed-sound}
