@@ -1,28 +1,26 @@
 -- Boards stay sound: the empty one is, and settling and placing keep it so. On a sound board the seat by the board's rule is the seat that
 -- the links and the way give.
-use Prim.Native.Nat.{ℕ, _+_, _*_, _≤_, _<_, _^_, max}
+use Prim.Native.Nat.{ℕ, _+_, _*_, _≤_, _<_, max}
 use mathlib.Core.Path.{_≡_, refl, sym, ap, ap₂, _∙_, subst}
 use mathlib.Core.Bool.{Bool, true, false}
 use mathlib.Core.List.{List, [], _∷_, _++_}
 use native.Mathlib.Omega.{arith}
 use native.Mathlib.Numerals.{add-one}
-use borrow.Author.Tests.{eqb-true, eqb-false}
-use lib.Dec.{eqb}
+use borrow.Author.Tests.{eqb-false}
 use lib.ListN.{length, getD, set, take, replicate, length-set, length-append, length-replicate}
 use lib.Seq.{getD-set-same, getD-set-other, take-suc-set}
-use Rattle.graph.specs.Counting.{countOf, hit, Below, sumTo}
+use Rattle.graph.specs.Counting.{countOf, hit, Below}
 use Rattle.graph.specs.Links.{linked}
 use Rattle.graph.specs.Shop.{greatest}
 use Rattle.graph.specs.declared.Link.{Link}
 use Rattle.graph.specs.declared.Link.the-variants.{To, Nothing}
-use Rattle.graph.proofs.CountingLaws.{hit-eq, hit-ne, hit-le, either, countOf-append, count-all, sumTo-le, below-append}
+use Rattle.graph.proofs.CountingLaws.{hit-ne, hit-le, either, countOf-append, count-all, sumTo-le, below-append}
 use Rattle.graph.proofs.NamingLaws.{zeros-at}
 use Rattle.plan.specs.Problem.{Problem, Genes}
 use Rattle.plan.specs.Accepted.{Accepted, longest}
 use Rattle.timing.specs.Placing.{machineBefore, startAfter}
-use Rattle.timing.proofs.PlacingLaws.{greatest-same}
 use Rattle.board.specs.Board.{Board, boardOf, emptyBoard, isSettled, endOf, lastOn, lastOf, those, startOn, seat, seatAfter, seatFrom, settle, sit}
-use Rattle.board.specs.Sound.{latest, Sized, Sound, Room}
+use Rattle.board.specs.Sound.{latest, Sound, Room}
 use Rattle.board.specs.declared.Seat.{Seat}
 use Rattle.board.proofs.SeatLaws.{finish-most, last-below}
 

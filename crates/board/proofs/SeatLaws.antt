@@ -1,7 +1,7 @@
 -- The last placed read from a cell, and how late a seat can end.
 use Prim.Native.Nat.{ℕ, _+_, _*_, _≤_, _<_, _^_}
-use mathlib.Core.Path.{_≡_, refl, sym, ap, ap₂, _∙_}
-use mathlib.Core.List.{List, [], _∷_}
+use mathlib.Core.Path.{_≡_, refl}
+use mathlib.Core.List.{List}
 use native.Mathlib.Omega.{arith}
 use borrow.Author.Tests.{lt-ltb, le-ltb, ltb-true}
 use mathlib.Core.Bool.{Bool, true, false}
@@ -9,7 +9,6 @@ use lib.Dec.{ltb}
 use lib.ListN.{length, getD}
 use Rattle.graph.specs.Counting.{Below}
 use Rattle.graph.specs.Links.{linked, toIf}
-use Rattle.graph.specs.Shop.{greatest}
 use Rattle.graph.specs.declared.Link.{Link}
 use Rattle.graph.specs.declared.Link.the-variants.{To, Nothing}
 use Rattle.graph.proofs.ShopTheorem.{greatest-least}

@@ -5,7 +5,6 @@ use mathlib.Core.Path.{_≡_}
 use mathlib.Core.List.{List}
 use lib.ListN.{length, getD}
 use Rattle.graph.specs.Counting.{countOf, Below}
-use Rattle.plan.specs.Problem.{Problem}
 use Rattle.board.specs.Board.{Board}
 use Rattle.board.specs.declared.Seat.{Seat}
 

@@ -1,7 +1,7 @@
 // What both decoders place upon: who was placed last on each machine and of each task, when each placed activity starts and ends, and who is
 // settled. Cells by activity are 0 until it is placed; the last placed are held as numbers, one that is no activity standing for none.
 ghost use mathlib.Core.Path.{_≡_};
-ghost use Prim.Native.Nat.{ℕ, _+_, _^_, _≤_, _<_};
+ghost use Prim.Native.Nat.{ℕ, _+_, _^_, _<_};
 ghost use mathlib.Core.List.{List};
 ghost use lib.ListN.{length, getD, set, replicate};
 ghost use Rattle.words.specs.Words.{words};
@@ -14,8 +14,8 @@ ghost use Rattle.plan.specs.Accepted.{Accepted};
 ghost use Rattle.tables.specs.Tabled.{Tabled};
 ghost use Rattle.genes.specs.Indexed.{assignedTo};
 ghost use Rattle.timing.specs.Placing.{machineBefore};
-ghost use Rattle.board.specs.Board.{Board, boardOf, emptyBoard, lastPlaced, seatAfter, sit};
-ghost use Rattle.board.specs.Sound.{Sized, Room};
+ghost use Rattle.board.specs.Board.{boardOf, emptyBoard, lastPlaced, seatAfter, sit};
+ghost use Rattle.board.specs.Sound.{Room};
 use graph::Link;
 use plan::Layout;
 use plan::Machine;

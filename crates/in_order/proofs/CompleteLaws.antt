@@ -1,9 +1,9 @@
 -- Where task order and predecessors close no circle, one of those pending is always ready, so that every activity of the order is taken.
 use Prim.Native.Nat.{ℕ, zero, suc, _+_, _≤_, _<_}
 use mathlib.Core.Path.{_≡_, refl, sym, ap, _∙_, subst}
-use mathlib.Core.Bool.{Bool, true, false, not, _&&_, _||_}
+use mathlib.Core.Bool.{Bool, true, false, not, _||_}
 use mathlib.Core.List.{List, [], _∷_}
-use mathlib.Core.Logic.{_⊎_, inl, inr, ⊎-elim}
+use mathlib.Core.Logic.{_⊎_, inl, ⊎-elim}
 use native.Mathlib.Omega.{arith}
 use borrow.Author.Tests.{eq-eqb, eqb-true}
 use lib.Dec.{eqb}
@@ -15,16 +15,14 @@ use Rattle.graph.specs.Arcs.Leads.{one, more}
 use Rattle.graph.specs.Links.{toIf}
 use Rattle.graph.specs.declared.Link.{Link}
 use Rattle.graph.specs.declared.Link.the-variants.{To, Nothing}
-use Rattle.graph.proofs.CountingLaws.{hit-eq, hit-ne, hit-le, hit-pos, either, below-of, below-more, count-all, sumTo-ap, sumTo-add}
+use Rattle.graph.proofs.CountingLaws.{hit-eq, hit-ne, either, below-of, below-more, count-all, sumTo-ap, sumTo-add}
 use Rattle.graph.proofs.CircleLaws.{circle}
-use Rattle.graph.proofs.NamingLaws.{zeros-at}
 use Rattle.plan.specs.Problem.{Problem}
-use Rattle.tables.specs.Tabled.{taskPred}
 use Rattle.intake.specs.Circle.{Before}
 use Rattle.intake.specs.Circle.Before.{step, name}
-use Rattle.lines.specs.Linking.{marked}
 use Rattle.lines.proofs.LinkLaws.{marked-length}
 use Rattle.in_order.specs.InOrder.{isPending, anyPending, earlierPending, isReady, canCome, orElse, firstReady, readyFrom, allPending, readyOrder}
+use Rattle.in_order.proofs.PendingLaws.{or-true, and-true, marked-in, pending-of, pending-most, sum-most}
 use Rattle.in_order.proofs.TakingLaws.{first-is, first-pending}
 use Rattle.in_order.proofs.OrderLaws.{ready-pending, ready-once}
 
@@ -39,14 +37,6 @@ flat (one l) = l
 flat (more l m) = trans l (flat m)
 
 -- ---- what is not ready waits for one that is pending
-
-or-true : (a b : Bool) → (a || b) ≡ true → (a ≡ true) ⊎ (b ≡ true)
-or-true true b e = inl refl
-or-true false b e = inr e
-
-and-true : (a b : Bool) → (a && b) ≡ true → (a ≡ true) × (b ≡ true)
-and-true true b e = (refl, e)
-and-true false b e = let z : _≡_ {A = ℕ} 0 1 = cc in absurd (omega arith)
 
 not-false : (a : Bool) → not a ≡ false → a ≡ true
 not-false true e = refl
@@ -88,35 +78,6 @@ none-comes p pending (b ∷ l) a e h =
     let w = to-not (canCome p pending b) b (firstReady p pending l) e in
     let deeper = none-comes p pending l a (w .1) in
     either b a (λ q. ap (canCome p pending) (sym q) ∙ w .0) (λ ne. deeper (omega (arith, hit-ne b a ne)))
-
--- ---- all of the order are pending at first, and no others
-
-marked-in : (ks c : List ℕ) (x : ℕ) → Below (length c) ks → (0 < countOf x ks) ⊎ (getD c x 0 ≡ 1) → getD (marked ks 1 c) x 0 ≡ 1
-unfolding marked countOf Below
-marked-in [] c x b h = ⊎-elim (λ k. absurd (omega arith)) (λ e. e) h
-marked-in (a ∷ ks) c x b h =
-    let deeper = marked-in ks (set c a 1) x (rw (length-set c a 1) (b .1)) in
-    either a x (λ e. deeper (inr (subst (λ (y : ℕ). getD (set c a 1) y 0 ≡ 1) e (getD-set-same c a 1 0 (b .0)))))
-    (λ ne. deeper (⊎-elim (λ k. inl (omega (arith, hit-ne a x ne))) (λ e. inr (getD-set-other c a x 1 0 (λ q. ne (sym q)) ∙ e)) h))
-
-marked-of : (ks c : List ℕ) (x : ℕ) → getD (marked ks 1 c) x 0 ≡ 1 → (0 < countOf x ks) ⊎ (getD c x 0 ≡ 1)
-unfolding marked countOf
-marked-of [] c x e = inr e
-marked-of (a ∷ ks) c x e =
-    let deeper = marked-of ks (set c a 1) x e in
-    either a x (λ q. inl (omega (arith, hit-eq a x q))) (λ ne. ⊎-elim (λ k. inl (omega arith)) (λ z. inr (sym (getD-set-other c a x 1 0 (λ q. ne (sym q))) ∙ z)) deeper)
-
-pub pending-of : (activities : List ℕ) (x : ℕ) → getD (allPending activities) x 0 ≡ 1 → 0 < countOf x activities
-pending-of activities x e = ⊎-elim (λ k. k) (λ z. absurd (omega (arith, z, zeros-at 128 x))) (marked-of activities (replicate 128 0) x e)
-
-sum-most : (k : ℕ) (f g : ℕ → ℕ) → ((i : ℕ) → f i ≤ g i) → sumTo k f ≤ sumTo k g
-unfolding sumTo
-sum-most zero f g h = omega arith
-sum-most (suc k) f g h = omega (arith, sum-most k f g h, h k)
-
-pending-most : (activities : List ℕ) (x : ℕ) → hit (getD (allPending activities) x 0) 1 ≤ countOf x activities
-pending-most activities x =
-    either (getD (allPending activities) x 0) 1 (λ e. omega (arith, hit-le (getD (allPending activities) x 0) 1, pending-of activities x e)) (λ ne. omega (arith, hit-ne (getD (allPending activities) x 0) 1 ne))
 
 module _ (p : Problem) (activities : List ℕ) (known : Below (p .n) activities) (acyclic : Circle (p .n) (Before p) → ⊥) where
   -- only what is in the order is pending

@@ -1,5 +1,7 @@
 pub mod ReadyLaws
+pub mod PendingLaws
 pub mod TakingLaws
+pub mod StepLaws
 pub mod OneLaws
 pub mod OrderLaws
 pub mod SeatingLaws

@@ -1,24 +1,24 @@
 -- One activity that comes next upon a board: what its seat asks is there, and what is worked out is the seat by the rule.
-use Prim.Native.Nat.{ℕ, _+_, _≤_, _<_, _^_}
-use mathlib.Core.Path.{_≡_, refl, sym, ap, ap₂, _∙_, subst}
-use mathlib.Core.List.{List, [], _∷_}
+use Prim.Native.Nat.{ℕ, _<_, _^_}
+use mathlib.Core.Path.{_≡_, sym, ap, _∙_}
+use mathlib.Core.List.{List}
 use native.Mathlib.Omega.{arith}
-use lib.ListN.{length, getD}
+use lib.ListN.{getD}
 use Rattle.graph.specs.Counting.{Below}
 use Rattle.graph.specs.Links.{linked}
 use Rattle.graph.specs.declared.Link.{Link}
 use Rattle.plan.specs.Problem.{Problem, Genes}
 use Rattle.plan.specs.Found.{transportsOf, between}
-use Rattle.plan.specs.Accepted.{Accepted, longest}
+use Rattle.plan.specs.Accepted.{Accepted}
 use Rattle.plan.proofs.RowLaws.{between-at}
 use Rattle.timing.specs.Placing.{machineBefore}
 use Rattle.genes.specs.Indexed.{assignedTo}
 use Rattle.genes.proofs.MachineLaws.{assigned-known}
-use Rattle.board.specs.Board.{Board, boardOf, endOf, lastOn, lastOf, seat, seatAfter, sit}
-use Rattle.board.specs.Sound.{Sound, Room}
+use Rattle.board.specs.Board.{Board, endOf, lastOn, lastOf, seat, seatAfter, sit}
+use Rattle.board.specs.Sound.{Sound}
 use Rattle.board.specs.declared.Seat.{Seat}
 use Rattle.board.proofs.SeatLaws.{last-below}
-use Rattle.board.proofs.BoardLaws.{seat-is, sit-room, from-known, seat-sound, ends-within}
+use Rattle.board.proofs.BoardLaws.{seat-is, from-known, seat-sound, ends-within}
 use Rattle.in_order.specs.Waiting.{Coming}
 
 module _ (p : Problem) (g : Genes) (ok : Accepted p g) {b : Board} {a m : ℕ} {step : Link} {way : ℕ} (k : Coming p g b a m step way) where

@@ -1,24 +1,33 @@
 -- The loops that look for the first ready activity: what is left answers what the whole does.
 use Prim.Native.Nat.{ℕ, zero, suc, _+_, _-_, _≤_, _<_}
-use mathlib.Core.Path.{_≡_, refl, sym, ap, ap₂, _∙_, subst}
-use mathlib.Core.Bool.{Bool, true, false, not, _&&_, _||_}
-use mathlib.Core.List.{List, [], _∷_, _++_}
+use mathlib.Core.Path.{_≡_, refl, sym, ap, _∙_}
+use mathlib.Core.Bool.{Bool, true, false, _||_}
+use mathlib.Core.List.{List, [], _∷_}
 use native.Mathlib.Omega.{arith}
 use native.Mathlib.Numerals.{add-one}
 use borrow.Author.Tests.{eq-eqb, ne-eqb}
 use lib.Dec.{eqb}
-use lib.ListN.{length, getD, set, take, drop, replicate, length-set}
+use lib.ListN.{length, getD, set, drop, length-set}
 use lib.Seq.{drop-cons, drop-length}
-use Rattle.graph.specs.declared.Link.{Link}
+use Rattle.graph.specs.Counting.{countOf}
+use Rattle.graph.proofs.CountingLaws.{hit-eq}
 use Rattle.graph.specs.declared.Link.the-variants.{To, Nothing}
 use Rattle.plan.specs.Problem.{Problem}
+use Rattle.tables.specs.Tabled.{taskPred}
+use Rattle.graph.specs.Links.{toIf}
 use Rattle.lines.specs.Linking.{marked}
-use Rattle.in_order.specs.Waiting.{takenBefore}
+use Rattle.in_order.specs.Waiting.{takenBefore, stepPending, Told}
 use Rattle.in_order.specs.InOrder.{isPending, anyPending, earlierPending, isReady, canCome, firstReady}
 
 -- A list from its i-th on begins with the i-th.
 pub next-of : {A : Type 0} (f : List ℕ → A) (l : List ℕ) (i : ℕ) → i < length l → f (drop i l) ≡ f (getD l i 0 ∷ drop (i + 1) l)
 next-of f l i h = ap f (drop-cons l i 0 h ∙ ap (λ (j : ℕ). getD l i 0 ∷ drop j l) (sym (add-one i)))
+
+pub in-list : (l : List ℕ) (i : ℕ) → i < length l → 0 < countOf (getD l i 0) l
+unfolding countOf
+in-list [] i h = absurd (omega arith)
+in-list (x ∷ l) zero h = omega (arith, hit-eq x x refl)
+in-list (x ∷ l) (suc i) h = omega (arith, in-list l i (omega arith))
 
 pub none-left : {A : Type 0} (f : List ℕ → A) (l : List ℕ) (i : ℕ) → i ≤ length l → length l ≤ i → f (drop i l) ≡ f []
 none-left f l i h k =
@@ -68,39 +77,25 @@ module _ {pending list : List ℕ} {i : ℕ} (w : Asking pending list i) where
     pub ask-again : (getD pending (getD list i 0) 0 ≡ 1 → ⊥) → Asking pending list (i + 1)
     ask-again ne = record { within = omega arith; left = rw (ne-eqb (getD pending (getD list i 0) 0) 1 ne) at asked }
 
--- ---- `earlier_pending`
+-- ---- `step_pending`
 
-pub record Stepping (p : Problem) (pending : List ℕ) (a b : ℕ) : Type 0 where
-  pub within : b ≤ a
-  pub left : earlierPending p pending b ≡ earlierPending p pending a
+to-less : (t : Bool) (a b : ℕ) → toIf t a ≡ To b → b ≡ a
+to-less true a b e = cc
+to-less false a b e = let z : _≡_ {A = ℕ} 0 1 = cc in absurd (omega arith)
 
-stepped : (p : Problem) (pending : List ℕ) (b : ℕ) → 0 < b
-    → earlierPending p pending b ≡ (eqb (p .taskOf (b - 1)) (p .taskOf b) && (isPending pending (b - 1) || earlierPending p pending (b - 1)))
-unfolding earlierPending
-stepped p pending zero h = absurd (omega arith)
-stepped p pending (suc b) h =
-    let e : suc b - 1 ≡ b = omega arith in
-    rw e refl
+pub before-less : (p : Problem) (a b : ℕ) → taskPred p a ≡ To b → b < a
+before-less p zero b e = let z : _≡_ {A = ℕ} 0 1 = cc in absurd (omega arith)
+before-less p (suc a) b e = omega (arith, to-less (eqb (p .taskOf a) (p .taskOf (suc a))) a b e)
 
-module _ {p : Problem} {pending : List ℕ} {a b : ℕ} (w : Stepping p pending a b) where
-  pub none-earlier : b ≡ 0 → false ≡ earlierPending p pending a
-  unfolding earlierPending
-  none-earlier e = ap (earlierPending p pending) (sym e) ∙ w .left
+module _ (p : Problem) (pending : List ℕ) (a : ℕ) where
+  pub no-step : taskPred p a ≡ Nothing → false ≡ stepPending p pending a
+  no-step e = rw e
 
-  module _ (h : 0 < b) where
-    here : (eqb (p .taskOf (b - 1)) (p .taskOf b) && (isPending pending (b - 1) || earlierPending p pending (b - 1))) ≡ earlierPending p pending a
-    here = sym (stepped p pending b h) ∙ w .left
+  pub step-waits : (b : ℕ) → taskPred p a ≡ To b → getD pending b 0 ≡ 1 → true ≡ stepPending p pending a
+  step-waits b e z = rw (e, eq-eqb (getD pending b 0) 1 z)
 
-    pub other-task : (p .taskOf (b - 1) ≡ p .taskOf b → ⊥) → false ≡ earlierPending p pending a
-    other-task ne = rw (ne-eqb (p .taskOf (b - 1)) (p .taskOf b) ne) at here
-
-    module _ (e : p .taskOf (b - 1) ≡ p .taskOf b) where
-      pub earlier-one : getD pending (b - 1) 0 ≡ 1 → true ≡ earlierPending p pending a
-      earlier-one z = rw (eq-eqb (p .taskOf (b - 1)) (p .taskOf b) e, eq-eqb (getD pending (b - 1) 0) 1 z) at here
-
-      pub step-again : (getD pending (b - 1) 0 ≡ 1 → ⊥) → Stepping p pending a (b - 1)
-      step-again ne =
-          record { within = omega (arith, w .within); left = rw (eq-eqb (p .taskOf (b - 1)) (p .taskOf b) e, ne-eqb (getD pending (b - 1) 0) 1 ne) at here }
+  pub step-taken : (b : ℕ) → taskPred p a ≡ To b → (getD pending b 0 ≡ 1 → ⊥) → false ≡ stepPending p pending a
+  step-taken b e ne = rw (e, ne-eqb (getD pending b 0) 1 ne)
 
 -- ---- `first_ready`
 
@@ -163,15 +158,15 @@ module _ (p : Problem) (pending : List ℕ) (a : ℕ) where
       let z : anyPending pending (p .predecessors a) ≡ true = ap (anyPending pending) (sym e) ∙ sym f ∙ t in
       rw z
 
-  pub earlier-waits : {r : Bool} → r ≡ earlierPending p pending a → r ≡ true → false ≡ isReady p pending a
-  earlier-waits {r} f t =
-      let z : earlierPending p pending a ≡ true = sym f ∙ t in
+  pub earlier-waits : Told p pending a → {r : Bool} → r ≡ stepPending p pending a → r ≡ true → false ≡ isReady p pending a
+  earlier-waits told {r} f t =
+      let z : earlierPending p pending a ≡ true = sym told ∙ sym f ∙ t in
       rw (z, or-true (anyPending pending (p .predecessors a)))
 
-  pub all-taken : {named : List ℕ} {r s : Bool} → named ≡ p .predecessors a → r ≡ anyPending pending named → r ≡ false → s ≡ earlierPending p pending a → s ≡ false → true ≡ isReady p pending a
-  all-taken {named} {r} {s} e f t k u =
+  pub all-taken : Told p pending a → {named : List ℕ} {r s : Bool} → named ≡ p .predecessors a → r ≡ anyPending pending named → r ≡ false → s ≡ stepPending p pending a → s ≡ false → true ≡ isReady p pending a
+  all-taken told {named} {r} {s} e f t k u =
       let z : anyPending pending (p .predecessors a) ≡ false = ap (anyPending pending) (sym e) ∙ sym f ∙ t in
-      let w : earlierPending p pending a ≡ false = sym k ∙ u in
+      let w : earlierPending p pending a ≡ false = sym told ∙ sym k ∙ u in
       rw (z, w)
 
   pub not-pending : (getD pending a 0 ≡ 1 → ⊥) → false ≡ canCome p pending a

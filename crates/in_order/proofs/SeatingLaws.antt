@@ -1,22 +1,19 @@
 -- The loop that places all that are ready: the board so far, with the rest placed upon it, is the whole.
-use Prim.Native.Nat.{ℕ, zero, suc, _+_, _-_, _≤_, _<_}
-use mathlib.Core.Path.{_≡_, refl, sym, ap, ap₂, _∙_, subst}
-use mathlib.Core.List.{List, [], _∷_, _++_}
-use mathlib.Core.Option.{Option, none, some}
+use Prim.Native.Nat.{ℕ, _+_, _-_, _≤_, _<_}
+use mathlib.Core.Path.{_≡_, refl, sym, ap, _∙_, subst}
+use mathlib.Core.List.{List}
 use native.Mathlib.Omega.{arith}
-use native.Mathlib.Numerals.{add-one}
-use lib.ListN.{length, getD, set, take, drop, replicate, length-set}
-use lib.Seq.{getD-set-same, getD-set-other, length-take-le}
+use lib.ListN.{length, getD, set, take, drop, length-set}
+use lib.Seq.{getD-set-other, length-take-le}
 use Rattle.graph.specs.Counting.{countOf, hit, Below}
-use Rattle.graph.proofs.CountingLaws.{hit-eq, hit-ne, hit-le, either}
+use Rattle.graph.proofs.CountingLaws.{hit-eq, either}
 use Rattle.graph.proofs.NamingLaws.{zeros-at}
 use Rattle.plan.specs.Problem.{Problem, Genes}
 use Rattle.plan.specs.Found.{machineOr}
 use Rattle.plan.specs.declared.Machine.the-variants.{On, Nothing}
-use Rattle.plan.specs.Accepted.{Accepted}
 use Rattle.genes.specs.Indexed.{assignedTo}
 use Rattle.genes.specs.Held.{Listed}
-use Rattle.board.specs.Board.{Board, boardOf, emptyBoard, seat, sit, settle}
+use Rattle.board.specs.Board.{Board, emptyBoard, seat, sit, settle}
 use Rattle.board.specs.Sound.{Sound}
 use Rattle.board.proofs.SeatLaws.{without-machine, with-machine}
 use Rattle.board.proofs.BoardLaws.{empty-sound, settle-sound, room-left}

@@ -4,9 +4,9 @@ use mathlib.Core.Path.{_≡_, refl, sym, ap, _∙_}
 use mathlib.Core.List.{List, [], _∷_, _++_, append-nil}
 use mathlib.Core.Option.{Option, none, some}
 use native.Mathlib.Omega.{arith}
-use lib.ListN.{length, getD, set}
+use lib.ListN.{getD, set}
 use lib.Seq.{getD-set-other, append-snoc}
-use Rattle.graph.specs.Counting.{countOf, hit, Below}
+use Rattle.graph.specs.Counting.{countOf, Below}
 use Rattle.graph.specs.Filing.{consIf}
 use Rattle.graph.proofs.CountingLaws.{hit-eq, either}
 use Rattle.plan.specs.Problem.{Problem, Genes}

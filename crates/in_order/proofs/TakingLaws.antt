@@ -1,28 +1,26 @@
 -- The loop that takes the first ready activity again and again: what is written and the rest are the whole order.
 use Prim.Native.Nat.{ℕ, zero, suc, _+_, _-_, _≤_, _<_}
-use mathlib.Core.Path.{_≡_, refl, sym, ap, ap₂, _∙_, subst}
-use mathlib.Core.Bool.{Bool, true, false, not, cond, _&&_, _||_}
+use mathlib.Core.Path.{_≡_, refl, sym, ap, _∙_, subst}
+use mathlib.Core.Bool.{Bool, true, false, cond, _&&_}
 use mathlib.Core.List.{List, [], _∷_, _++_}
 use mathlib.Core.List.{append-nil}
 use mathlib.Core.Logic.{_⊎_, inl, inr, ⊎-elim}
 use native.Mathlib.Omega.{arith}
 use native.Mathlib.Numerals.{add-one}
-use borrow.Author.Tests.{eq-eqb, ne-eqb, eqb-true, eqb-false}
-use lib.Dec.{eqb}
+use borrow.Author.Tests.{eqb-true, eqb-false}
 use lib.ListN.{length, getD, set, take, drop, replicate, length-set, length-drop}
-use lib.Seq.{drop-cons, getD-drop, drop-length, take-suc-set, append-snoc, getD-set-same, getD-set-other, length-take-le}
-use Rattle.graph.specs.Counting.{countOf, hit, Below}
+use lib.Seq.{drop-cons, getD-drop, take-suc-set, append-snoc, getD-set-same, getD-set-other, length-take-le}
+use Rattle.graph.specs.Counting.{countOf, Below}
 use Rattle.graph.specs.Links.{toIf}
 use Rattle.graph.specs.declared.Link.{Link}
 use Rattle.graph.specs.declared.Link.the-variants.{To, Nothing}
-use Rattle.graph.proofs.CountingLaws.{hit-eq, hit-ne, hit-le, either, below-of}
+use Rattle.graph.proofs.CountingLaws.{hit-eq, either, below-of}
 use Rattle.plan.specs.Problem.{Problem}
-use Rattle.lines.specs.Linking.{marked}
 use Rattle.lines.proofs.LinkLaws.{marked-length}
 use Rattle.genes.specs.Held.{Listed}
 use Rattle.in_order.specs.InOrder.{isPending, canCome, orElse, firstReady, readyFrom, allPending, readyOrder}
 use Rattle.in_order.specs.Waiting.{takenBefore}
-use Rattle.in_order.proofs.ReadyLaws.{next-of, not-pending}
+use Rattle.in_order.proofs.ReadyLaws.{not-pending}
 
 -- ---- the first that is ready
 
@@ -160,6 +158,9 @@ module _ {activities order₀ order pending : List ℕ} {front taken : ℕ} (w :
 
       pub a-known : Below (p .n) activities → p .n ≤ 128 → {a : ℕ} → link ≡ To a → a < 128
       a-known b few {a} t = omega (arith, below-of (p .n) a activities b (first-is p pending activities a (first ∙ t) .0))
+
+      pub a-comes : {a : ℕ} → link ≡ To a → canCome p pending a ≡ true
+      a-comes {a} t = first-is p pending activities a (first ∙ t) .1
 
       fuel : length activities - taken ≡ suc (length activities - (taken + 1))
       fuel = omega arith

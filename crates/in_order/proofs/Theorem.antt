@@ -1,10 +1,5 @@
 -- What is true of the sheet that is placed in order.
-use Prim.Native.Nat.{ℕ, _≤_}
-use mathlib.Core.Path.{_≡_}
-use mathlib.Core.List.{List}
 use native.Mathlib.Omega.{arith}
-use lib.ListN.{getD}
-use Rattle.graph.specs.Counting.{countOf}
 use Rattle.graph.proofs.NamingLaws.{zeros-at}
 use Rattle.plan.specs.Problem.{Problem, Genes}
 use Rattle.plan.specs.Accepted.{Accepted}

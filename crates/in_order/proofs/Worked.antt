@@ -2,7 +2,7 @@
 -- the order waits for the last, with and without a machine for the one between.
 use Prim.Native.Nat.{ℕ, _*_}
 use mathlib.Core.Path.{_≡_, refl}
-use mathlib.Core.Bool.{Bool, true, false, cond}
+use mathlib.Core.Bool.{false, cond}
 use mathlib.Core.List.{List, [], _∷_}
 use mathlib.Core.Option.{Option, none, some}
 use lib.Dec.{eqb, ltb}
@@ -18,7 +18,6 @@ use Rattle.plan.specs.Found.{layoutOf}
 use Rattle.grammar.specs.Rules as rules
 use Rattle.intake.proofs.Worked.{wordsOfS, readingOfS}
 use Rattle.lines.specs.Linking as linking
-use Rattle.genes.specs.Indexed.{indexed}
 use Rattle.genes.specs.Indexed as genes
 use Rattle.board.specs.Board.{Board}
 use Rattle.board.specs.Board as board

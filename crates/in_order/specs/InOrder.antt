@@ -1,7 +1,7 @@
 -- Document 01, "Two decoders", in order: repeatedly the first activity whose predecessors and earlier task steps are taken or not in the
 -- order. Without a machine it is settled, end 0, unplaced.
 use Prim.Native.Nat.{ℕ, zero, suc}
-use mathlib.Core.Bool.{Bool, true, false, not, _&&_, _||_}
+use mathlib.Core.Bool.{Bool, false, not, _&&_, _||_}
 use mathlib.Core.List.{List, [], _∷_}
 use mathlib.Core.Option.{Option, none, some}
 use lib.Dec.{eqb}

@@ -1,18 +1,35 @@
 -- What the order's functions ask of their slices.
 use Prim.Native.Nat.{ℕ, suc, _≤_, _<_}
-use mathlib.Core.Bool.{cond}
+use mathlib.Core.Bool.{Bool, false, cond}
 use mathlib.Core.Path.{_≡_}
 use mathlib.Core.List.{List, [], _∷_}
 use lib.ListN.{length, getD}
 use Rattle.graph.specs.Counting.{countOf, Below}
 use Rattle.graph.specs.declared.Link.{Link}
+use Rattle.graph.specs.declared.Link.the-variants.{To, Nothing}
 use Rattle.plan.specs.Problem.{Problem, Genes}
-use Rattle.tables.specs.Tabled.{Tabled}
+use Rattle.tables.specs.Tabled.{Tabled, taskPred}
 use Rattle.timing.specs.Placing.{machineBefore}
 use Rattle.genes.specs.Indexed.{assignedTo}
 use Rattle.board.specs.Board.{Board, emptyBoard, lastOf}
-use Rattle.in_order.specs.InOrder.{isPending}
+use Rattle.in_order.specs.InOrder.{isPending, earlierPending}
 use Rattle.board.specs.Sound.{Sized, Sound}
+
+-- The step before is pending.
+abbrev pub linkPending : (pending : List ℕ) → Link → Bool
+linkPending pending Nothing = false
+linkPending pending (To b) = isPending pending b
+
+abbrev pub stepPending : Problem → (pending : List ℕ) → ℕ → Bool
+stepPending p pending a = linkPending pending (taskPred p a)
+
+-- The step before tells of all earlier ones: where it is taken, so are they.
+abbrev pub Told : Problem → (pending : List ℕ) → ℕ → Type 0
+Told p pending a = stepPending p pending a ≡ earlierPending p pending a
+
+-- An order that has a step of a task has the step before it.
+abbrev pub Stepwise : Problem → (activities : List ℕ) → Type 0
+Stepwise p activities = (a : ℕ) → 0 < countOf (suc a) activities → p .taskOf a ≡ p .taskOf (suc a) → 0 < countOf a activities
 
 -- The table holds a problem of no more than 128 activities, who name each other.
 pub record Naming (p : Problem) (table : List ℕ) : Type 0 where
@@ -26,17 +43,20 @@ pub record Flagged (table pending : List ℕ) (a : ℕ) : Type 0 where
   pub naming : Naming problem table
   pub roomy : problem .n ≤ length pending
   pub here : a < problem .n
+  pub told : Told problem pending a
 
 pub record Waiting (table activities pending : List ℕ) : Type 0 where
   pub problem : Problem
   pub naming : Naming problem table
   pub roomy : problem .n ≤ length pending
   pub known : Below (problem .n) activities
+  pub told : (a : ℕ) → 0 < countOf a activities → Told problem pending a
 
 pub record Ordered (table activities : List ℕ) : Type 0 where
   pub problem : Problem
   pub naming : Naming problem table
   pub known : Below (problem .n) activities
+  pub stepwise : Stepwise problem activities
 
 -- How many of a list come before the first that is pending.
 unfoldable pub takenBefore : (pending : List ℕ) → List ℕ → ℕ

@@ -1,7 +1,7 @@
 -- What is true of the sheet that is placed in order: its rows are the activities taken that have a machine, in the order in which they are
 -- taken; none stands there twice; no end is later than document 01 says; and where task order and predecessors close no circle, every
 -- activity of the order is taken, once.
-use Prim.Native.Nat.{ℕ, _≤_, _<_}
+use Prim.Native.Nat.{ℕ, _≤_}
 use mathlib.Core.Path.{_≡_}
 use lib.ListN.{getD}
 use Rattle.graph.specs.Counting.{countOf}

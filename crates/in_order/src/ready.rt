@@ -2,15 +2,14 @@
 use graph::Link;
 ghost use mathlib.Core.Path.{_≡_};
 ghost use Prim.Native.Nat.{ℕ, _+_, _≤_, _<_};
-ghost use lib.ListN.{length, getD, drop};
-ghost use Rattle.graph.specs.Counting.{Below};
+ghost use lib.ListN.{length, drop};
+ghost use Rattle.graph.specs.Counting.{countOf, Below};
 ghost use Rattle.plan.specs.Problem.{Problem};
 ghost use Rattle.lines.specs.Linking.{marked};
-ghost use Rattle.tables.specs.Regions.{cells};
 ghost use Rattle.tables.specs.Tabled.{Tabled};
 ghost use Rattle.genes.specs.Held.{Listed};
-ghost use Rattle.in_order.specs.InOrder.{anyPending, earlierPending, isReady, canCome, firstReady, readyOrder};
-ghost use Rattle.in_order.specs.Waiting.{takenBefore, Naming, Flagged, Waiting, Ordered};
+ghost use Rattle.in_order.specs.InOrder.{anyPending, isReady, canCome, firstReady, readyOrder};
+ghost use Rattle.in_order.specs.Waiting.{takenBefore, stepPending, Told, Stepwise, Naming, Flagged, Waiting, Ordered};
 
 // Marks all of the order as pending.
 fn mark(activities: &[usize], pending: &mut [usize])
@@ -41,35 +40,30 @@ fn any_pending(list: &[usize], pending: &[usize]) -> bool
     false
 }
 
-// Whether an earlier step of an activity's task is pending.
-fn earlier_pending(table: &[usize], pending: &[usize], a: usize) -> bool
-    requires { ⌜ (a < 128) × (a < length (now pending)) × (length (now table) ≡ cells) ⌝ }
-    ensures { λ r. ⌜ ((p : Problem) → Tabled p (now (table .entry)) → a < p .n → r ≡ earlierPending p (now (pending .entry)) a) ⌝ }
+// Whether the step before an activity is pending.
+fn step_pending(table: &[usize], pending: &[usize], a: usize) -> bool
+    requires { ⌜ Flagged (now table) (now pending) a ⌝ }
+    ensures { λ r. ⌜ ((p : Problem) → Tabled p (now (table .entry)) → a < p .n → r ≡ stepPending p (now (pending .entry)) a) ⌝ }
 {
-    let mut b = a;
-    while 0 < b {
-        let after = b;
-        b -= 1;
-        let own = tables::owner(table, after);
-        if tables::owner(table, b) != own {
-            return false;
-        }
-        if pending[b] == 1 {
-            return true;
-        }
+    let Link::To(b) = tables::before_of(table, a) else {
+        return false;
+    };
+    if pending[b] == 1 {
+        return true;
     }
     false
 }
 
-// Whether an activity's predecessors and earlier steps are taken or not in the order.
+// Whether an activity's predecessors and earlier steps are taken or not in the order. The steps of a task are taken one after the other, so
+// that the step before tells of all earlier ones.
 fn is_ready(table: &[usize], pending: &[usize], a: usize) -> bool
     requires { ⌜ Flagged (now table) (now pending) a ⌝ }
-    ensures { λ r. ⌜ ((p : Problem) → Naming p (now (table .entry)) → a < p .n → r ≡ isReady p (now (pending .entry)) a) ⌝ }
+    ensures { λ r. ⌜ ((p : Problem) → Naming p (now (table .entry)) → a < p .n → Told p (now (pending .entry)) a → r ≡ isReady p (now (pending .entry)) a) ⌝ }
 {
     if any_pending(tables::named_by(table, a), pending) {
         return false;
     }
-    if earlier_pending(table, pending, a) {
+    if step_pending(table, pending, a) {
         return false;
     }
     true
@@ -78,7 +72,7 @@ fn is_ready(table: &[usize], pending: &[usize], a: usize) -> bool
 // Whether an activity is pending and ready.
 fn can_come(table: &[usize], pending: &[usize], a: usize) -> bool
     requires { ⌜ Flagged (now table) (now pending) a ⌝ }
-    ensures { λ r. ⌜ ((p : Problem) → Naming p (now (table .entry)) → a < p .n → r ≡ canCome p (now (pending .entry)) a) ⌝ }
+    ensures { λ r. ⌜ ((p : Problem) → Naming p (now (table .entry)) → a < p .n → Told p (now (pending .entry)) a → r ≡ canCome p (now (pending .entry)) a) ⌝ }
 {
     if pending[a] != 1 {
         return false;
@@ -105,7 +99,7 @@ fn skip_taken(activities: &[usize], pending: &[usize], from: usize) -> usize
 // The first of the order, from one place on, that is pending and ready.
 fn first_ready(table: &[usize], activities: &[usize], pending: &[usize], from: usize) -> Link
     requires { ⌜ Waiting (now table) (now activities) (now pending) × (from ≤ length (now activities)) ⌝ }
-    ensures { λ r. ⌜ ((p : Problem) → Naming p (now (table .entry)) → Below (p .n) (now (activities .entry)) → r ≡ firstReady p (now (pending .entry)) (drop from (now (activities .entry)))) ⌝ }
+    ensures { λ r. ⌜ ((p : Problem) → Naming p (now (table .entry)) → Below (p .n) (now (activities .entry)) → ((a : ℕ) → 0 < countOf a (now (activities .entry)) → Told p (now (pending .entry)) a) → r ≡ firstReady p (now (pending .entry)) (drop from (now (activities .entry)))) ⌝ }
 {
     let mut i = from;
     while i < activities.len() {
@@ -122,7 +116,7 @@ fn first_ready(table: &[usize], activities: &[usize], pending: &[usize], from: u
 // order in which none waits for a later one is passed once.
 pub fn ready_order(table: &[usize], activities: &[usize], order: &mut [usize]) -> usize
     requires { ⌜ Ordered (now table) (now activities) × (length (now activities) ≤ length (now order)) ⌝ }
-    ensures { λ r. ⌜ ((p : Problem) → Naming p (now (table .entry)) → Below (p .n) (now (activities .entry)) → Listed (readyOrder p (now (activities .entry))) (now (order .entry)) (now (order .exit)) r) ⌝ }
+    ensures { λ r. ⌜ ((p : Problem) → Naming p (now (table .entry)) → Below (p .n) (now (activities .entry)) → Stepwise p (now (activities .entry)) → Listed (readyOrder p (now (activities .entry))) (now (order .entry)) (now (order .exit)) r) ⌝ }
     ensures { λ r. ⌜ r ≤ length (now (activities .entry)) ⌝ }
 {
     let mut pending = [0usize; 128];

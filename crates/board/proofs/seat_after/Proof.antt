@@ -1,12 +1,9 @@
 -- `board::seat_after` meets its contract: the start by the bounds of timing, the setup and the span after it.
-use Prim.Native.Nat.{ℕ}
-use mathlib.Core.Path.{_≡_, ap, ap₂, _∙_}
 use native.Mathlib.Omega.{arith}
 use denote.Ref.{now}
 use lib.ListN.{getD}
 use Rattle.words.specs.Words.{words}
 use Rattle.plan.specs.Input.{problemOf, genesOf}
-use Rattle.plan.specs.Accepted.{longest}
 use Rattle.timing.proofs.EndLaws.{setup-most, span-most}
 use Rattle.board.proofs.SeatLaws.{ending, start-most}
 use borrow.Author.Needs.{needs}

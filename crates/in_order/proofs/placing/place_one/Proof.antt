@@ -1,6 +1,6 @@
 -- `in_order::placing::place_one` meets its contract: the seat after these links is the board's seat, and it is placed.
 use Prim.Native.Nat.{ℕ}
-use mathlib.Core.Path.{_≡_, sym, ap, _∙_}
+use mathlib.Core.Path.{ap, _∙_}
 use native.Mathlib.Omega.{arith}
 use denote.Ref.{now}
 use lib.ListN.{set}

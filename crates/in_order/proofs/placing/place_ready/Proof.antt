@@ -1,6 +1,6 @@
 -- `in_order::placing::place_ready` meets its contract. The loop's invariant: placing the rest upon the board so far gives what placing all does.
 use Prim.Native.Nat.{ℕ, _-_, _<_}
-use mathlib.Core.Path.{_≡_, refl, sym, ap, _∙_}
+use mathlib.Core.Path.{refl, sym, ap, _∙_}
 use mathlib.Core.List.{List}
 use native.Mathlib.Omega.{arith}
 use denote.Ref.{now}
@@ -9,7 +9,7 @@ use Rattle.words.specs.Words.{words}
 use Rattle.plan.specs.Input.{problemOf, genesOf}
 use Rattle.genes.specs.Indexed.{assignedTo}
 use Rattle.genes.proofs.MachineLaws.{assigned-known}
-use Rattle.board.specs.Board.{Board, boardOf}
+use Rattle.board.specs.Board.{boardOf}
 use Rattle.board.proofs.SeatLaws.{with-machine, last-below}
 use Rattle.board.proofs.BoardLaws.{from-known}
 use Rattle.in_order.proofs.OneLaws.{way-is, coming-next, placed-sound}
@@ -196,7 +196,8 @@ cast-way c =
     let ef = c .before .machine-from .ensures in
     let from : c .before .machine-from .result < p .machines = rw ef (from-known p g ok (assignedTo g) (λ q k. assigned-known ok q) (w .sound) (p .taskOf a) es) in
     let ew = way-is p g ok (c .before .before .before .before .before .before .before .before .before .before .before .before .before .before .before .before .before .before .before .before .before .pre .0 .3) (c .before .machine-from .result) (c .before .before .before .before .before .m .given .0 .0) from there in
-    omega (arith, ew, ok .transport (c .before .machine-from .result) (c .before .before .before .before .before .m .given .0 .0) from there)
+    let back = way-is p g ok (c .before .before .before .before .before .before .before .before .before .before .before .before .before .before .before .before .before .before .before .before .before .pre .0 .3) (c .before .before .before .before .before .m .given .0 .0) (c .before .machine-from .result) there from in
+    omega (arith, ew, ok .transport (c .before .machine-from .result) (c .before .before .before .before .before .m .given .0 .0) from there, back, ok .transport (c .before .before .before .before .before .m .given .0 .0) (c .before .machine-from .result) there from)
 
 place-one-requires : tie.Need-place-one-requires Inv-loop μ-loop
 place-one-requires c κs =

@@ -1,16 +1,12 @@
 -- `in_order::placing::ready_activities` meets its contract: what the genes give, then in the order in which they are taken.
-use mathlib.Core.Path.{_≡_, sym, ap, _∙_, subst}
-use mathlib.Core.List.{List}
-use Prim.Native.Nat.{ℕ}
+use mathlib.Core.Path.{sym, ap, _∙_}
 use native.Mathlib.Omega.{arith}
 use denote.Ref.{now}
-use lib.ListN.{length, take}
+use lib.ListN.{length}
 use Rattle.words.specs.Words.{words}
 use Rattle.plan.specs.Input.{problemOf, genesOf}
-use Rattle.genes.specs.Held.{Listed}
 use Rattle.genes.proofs.IndexedLaws.{indexed-below}
-use Rattle.graph.specs.Counting.{Below}
-use Rattle.in_order.specs.InOrder.{readyOrder}
+use Rattle.in_order.proofs.StepLaws.{indexed-stepwise}
 use Rattle.in_order.proofs.OrderLaws.{naming-of}
 use borrow.Author.Needs.{needs}
 use Rattle.in_order.proofs.placing.ready_activities.Statement.{statement}
@@ -36,7 +32,7 @@ ready-order-requires c κs =
     let g = genesOf (words (now (c .before .before .before .before .before .before .before .before .args .s))) (c .before .before .before .before .before .before .before .before .args .z) in
     let ok = c .before .before .before .before .before .before .before .before .pre .0 .1 in
     let l = c .before .before .before .indexed .ensures .0 in
-    (record { problem = p; naming = naming-of ok (c .before .before .before .before .before .before .before .before .pre .0 .2); known = rw (l .listed) (indexed-below ok) }, omega (arith, ap length (l .listed), l .whole, c .before .before .before .indexed .ensures .1, c .before .before .before .before .before .before .before .before .pre .1))
+    (record { problem = p; naming = naming-of ok (c .before .before .before .before .before .before .before .before .pre .0 .2); known = rw (l .listed) (indexed-below ok); stepwise = rw (l .listed) (indexed-stepwise ok) }, omega (arith, ap length (l .listed), l .whole, c .before .before .before .indexed .ensures .1, c .before .before .before .before .before .before .before .before .pre .1))
 
 same-length : tie.Need-same-length
 same-length c = search needs
@@ -47,7 +43,7 @@ returns c =
     let g = genesOf (words (now (c .before .before .before .before .before .before .before .before .before .before .before .args .s))) (c .before .before .before .before .before .before .before .before .before .before .before .args .z) in
     let ok = c .before .before .before .before .before .before .before .before .before .before .before .pre .0 .1 in
     let l = c .before .before .before .before .before .before .indexed .ensures .0 in (
-      rw (l .listed) at (c .before .before .ready-order .ensures .0 p (naming-of ok (c .before .before .before .before .before .before .before .before .before .before .before .pre .0 .2)) (rw (l .listed) (indexed-below ok))),
+      rw (l .listed) at (c .before .before .ready-order .ensures .0 p (naming-of ok (c .before .before .before .before .before .before .before .before .before .before .before .pre .0 .2)) (rw (l .listed) (indexed-below ok)) (rw (l .listed) (indexed-stepwise ok))),
       omega (arith, c .before .before .ready-order .ensures .1, ap length (l .listed), l .whole, c .before .before .before .before .before .before .indexed .ensures .1),
     )
 

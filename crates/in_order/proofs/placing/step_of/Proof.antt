@@ -1,10 +1,9 @@
 -- `in_order::placing::step_of` meets its contract: the cell of the activity's task.
 use Prim.Native.Nat.{ℕ}
-use mathlib.Core.Path.{_≡_, ap, _∙_}
+use mathlib.Core.Path.{ap, _∙_}
 use native.Mathlib.Omega.{arith}
 use denote.Ref.{now}
 use Rattle.board.specs.Board.{lastPlaced}
-use borrow.Author.Needs.{needs}
 use Rattle.in_order.proofs.placing.step_of.Statement.{statement}
 use Rattle.in_order.proofs.placing.step_of.Tie as tie
 

@@ -6,7 +6,6 @@ use denote.Ref.{now}
 use lib.ListN.{length}
 use Rattle.graph.proofs.CountingLaws.{below-at}
 use Rattle.in_order.proofs.ReadyLaws.{Asking, none-pending, one-pending, ask-again}
-use borrow.Author.Needs.{needs}
 use Rattle.in_order.proofs.ready.any_pending.Statement.{statement}
 use Rattle.in_order.proofs.ready.any_pending.Tie as tie
 

@@ -17,13 +17,13 @@ shared-slice-read-if1 c =
     omega (arith, k .here, k .roomy)
 
 returns : tie.Need-returns
-returns c p n h = not-pending p (now (c .before .before .before .before .args .pending)) (c .before .before .before .before .args .a) (c .if1 .taken)
+returns c p n h told = not-pending p (now (c .before .before .before .before .args .pending)) (c .before .before .before .before .args .a) (c .if1 .taken)
 
 is-ready-requires : tie.Need-is-ready-requires
 is-ready-requires c κs = search needs
 
 returns-2 : tie.Need-returns-2
-returns-2 c p n h = pending-one p (now (c .before .before .before .before .before .args .pending)) (c .before .before .before .before .before .args .a) (c .before .if1 .left) (c .is-ready .ensures p n h)
+returns-2 c p n h told = pending-one p (now (c .before .before .before .before .before .args .pending)) (c .before .before .before .before .before .args .a) (c .before .if1 .left) (c .is-ready .ensures p n h told)
 
 pub can-come-spec : {M : Type 1} → statement M
 can-come-spec =

@@ -1,7 +1,4 @@
 -- `in_order::ready::is_ready` meets its contract: neither a predecessor nor an earlier step is pending.
-use mathlib.Core.Path.{_≡_, sym, ap, _∙_}
-use mathlib.Core.Bool.{not, true, false}
-use native.Mathlib.Omega.{arith}
 use denote.Ref.{now}
 use lib.ListN.{length}
 use Rattle.graph.proofs.CountingLaws.{below-more}
@@ -20,18 +17,18 @@ any-pending-requires c κs =
     rw (c .named-by .ensures q (k .naming .tabled) (k .here) (k .naming .few)) (below-more (q .n) (length (now (c .before .before .before .args .pending))) (q .predecessors (c .before .before .before .args .a)) (k .roomy) (k .naming .named (c .before .before .before .args .a)))
 
 returns : tie.Need-returns
-returns c p n h = not-ready p (now (c .before .before .before .before .before .args .pending)) (c .before .before .before .before .before .args .a) (c .before .before .named-by .ensures p (n .tabled) h (n .few)) (c .before .any-pending .ensures) (c .if1 .taken)
+returns c p n h told = not-ready p (now (c .before .before .before .before .before .args .pending)) (c .before .before .before .before .before .args .a) (c .before .before .named-by .ensures p (n .tabled) h (n .few)) (c .before .any-pending .ensures) (c .if1 .taken)
 
-earlier-pending-requires : tie.Need-earlier-pending-requires
-earlier-pending-requires c κs = search needs
+step-pending-requires : tie.Need-step-pending-requires
+step-pending-requires c κs = search needs
 
 returns-2 : tie.Need-returns-2
-returns-2 c p n h =
-    earlier-waits p (now (c .before .before .before .before .before .before .before .args .pending)) (c .before .before .before .before .before .before .before .args .a) (c .before .earlier-pending .ensures p (n .tabled) h) (c .if2 .taken)
+returns-2 c p n h told =
+    earlier-waits p (now (c .before .before .before .before .before .before .before .args .pending)) (c .before .before .before .before .before .before .before .args .a) told (c .before .step-pending .ensures p (n .tabled) h) (c .if2 .taken)
 
 returns-3 : tie.Need-returns-3
-returns-3 c p n h =
-    all-taken p (now (c .before .before .before .before .before .before .before .args .pending)) (c .before .before .before .before .before .before .before .args .a) (c .before .before .before .before .named-by .ensures p (n .tabled) h (n .few)) (c .before .before .before .any-pending .ensures) (c .before .before .if1 .left) (c .before .earlier-pending .ensures p (n .tabled) h) (c .if2 .left)
+returns-3 c p n h told =
+    all-taken p (now (c .before .before .before .before .before .before .before .args .pending)) (c .before .before .before .before .before .before .before .args .a) told (c .before .before .before .before .named-by .ensures p (n .tabled) h (n .few)) (c .before .before .before .any-pending .ensures) (c .before .before .if1 .left) (c .before .step-pending .ensures p (n .tabled) h) (c .if2 .left)
 
 pub is-ready-spec : {M : Type 1} → statement M
 is-ready-spec =
@@ -40,6 +37,6 @@ is-ready-spec =
     named-by-requires
     any-pending-requires
     returns
-    earlier-pending-requires
+    step-pending-requires
     returns-2
     returns-3)

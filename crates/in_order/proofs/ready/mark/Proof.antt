@@ -6,7 +6,6 @@ use denote.Ref.{now}
 use lib.ListN.{length}
 use Rattle.graph.proofs.CountingLaws.{below-at}
 use Rattle.in_order.proofs.ReadyLaws.{Marking, mark-again, mark-end}
-use borrow.Author.Needs.{needs}
 use Rattle.in_order.proofs.ready.mark.Statement.{statement}
 use Rattle.in_order.proofs.ready.mark.Tie as tie
 

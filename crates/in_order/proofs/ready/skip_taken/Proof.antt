@@ -6,7 +6,6 @@ use denote.Ref.{now}
 use lib.ListN.{length}
 use Rattle.graph.proofs.CountingLaws.{below-at}
 use Rattle.in_order.proofs.ReadyLaws.{Skipping, all-skipped, skip-end, skip-again}
-use borrow.Author.Needs.{needs}
 use Rattle.in_order.proofs.ready.skip_taken.Statement.{statement}
 use Rattle.in_order.proofs.ready.skip_taken.Tie as tie
 
