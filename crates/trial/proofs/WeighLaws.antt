@@ -1,6 +1,6 @@
 -- Which move counts, by the tests of the code. Assumes nothing.
 use mathlib.Core.Path.{_≡_, refl, sym, ap, _∙_, subst}
-use mathlib.Core.Bool.{Bool, true, false, not, _&&_, _||_}
+use mathlib.Core.Bool.{Bool, true, false, not, _&&_, _||_, false≢true}
 use mathlib.Core.List.{List}
 use Prim.Native.Nat.{ℕ}
 use lib.ListN.{getD}
@@ -12,7 +12,6 @@ use Rattle.moves.specs.Moves.{applied}
 use Rattle.fitness.specs.Fitness.{fitnessOf}
 use Rattle.timing.specs.Timing.{contradicts}
 use Rattle.timing.specs.Placing.{Timed}
-use Rattle.timing.proofs.TimedLaws.{false-is-not-true}
 use Rattle.trial.specs.declared.Best.{Best}
 use Rattle.trial.specs.declared.Best.the-variants.{Nothing, Found}
 use Rattle.trial.specs.Trial.{lineFitness, pickBest, better, weighed, tried, beats, counts, pickList, Allowed, Weighing, Holding}
@@ -36,12 +35,12 @@ pub weighed-taken : (forbidden : Bool) (best f : Float) (m : Move) (b : Best) �
 weighed-taken forbidden best f m b e = sym (weighed-is forbidden best f m b ∙ ap (λ (t : Bool). pickBest t (Found f m) b) e)
 
 pub list-kept : (t : Bool) (new old : List ℕ) → t ≡ false → old ≡ pickList t new old
-list-kept true new old e = absurd (false-is-not-true (sym e))
+list-kept true new old e = absurd (false≢true (sym e))
 list-kept false new old e = refl
 
 pub list-taken : (t : Bool) (new old : List ℕ) → t ≡ true → new ≡ pickList t new old
 list-taken true new old e = refl
-list-taken false new old e = absurd (false-is-not-true e)
+list-taken false new old e = absurd (false≢true e)
 
 module _ (p : Problem) (lines : Lines) where
   found-held : (f : Float) (m : Move) {order starts ends : List ℕ} → Weighing p lines f m order starts ends → Holding p lines (Found f m) order starts ends
@@ -93,17 +92,9 @@ module _ (p : Problem) (lines : Lines) where
 -- ---- what tests of a negation say
 
 pub not-not : (b : Bool) {r : Bool} → r ≡ not b → r ≡ true → b ≡ false
-not-not true e q = absurd (false-is-not-true (sym e ∙ q))
+not-not true e q = absurd (false≢true (sym e ∙ q))
 not-not false e q = refl
 
 pub not-false : (b : Bool) {r : Bool} → r ≡ not b → r ≡ false → b ≡ true
 not-false true e q = refl
-not-false false e q = absurd (false-is-not-true (sym q ∙ e))
-
-pub denied : (r : Bool) → not r ≡ true → r ≡ false
-denied true e = absurd (false-is-not-true e)
-denied false e = refl
-
-pub granted : (r : Bool) → not r ≡ false → r ≡ true
-granted true e = refl
-granted false e = absurd (false-is-not-true (sym e))
+not-false false e q = absurd (false≢true (sym q ∙ e))

@@ -1,7 +1,7 @@
 -- `trial::counts` meets its contract, a case for each test. Assumes nothing.
 use mathlib.Core.Bool.{true, false}
 use mathlib.Core.Path.{_≡_}
-use Rattle.trial.proofs.WeighLaws.{denied, granted}
+use Rattle.graph.proofs.BoolLaws.{denied, granted}
 use borrow.Author.Needs.{needs}
 use Rattle.trial.proofs.counts.Statement.{statement}
 use Rattle.trial.proofs.counts.Tie as tie

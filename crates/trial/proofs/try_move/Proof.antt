@@ -9,7 +9,8 @@ use Rattle.lines.specs.Lines.{linesIn}
 use Rattle.moves.specs.Moves.{applied}
 use Rattle.timing.specs.Timing.{contradicts}
 use Rattle.trial.proofs.TimeLaws.{allowed-well-formed, ended}
-use Rattle.trial.proofs.WeighLaws.{tried-not, tried-is, weighing, weighed-held, not-not, not-false, denied, granted}
+use Rattle.graph.proofs.BoolLaws.{denied, granted}
+use Rattle.trial.proofs.WeighLaws.{tried-not, tried-is, weighing, weighed-held, not-not, not-false}
 use borrow.Author.Needs.{needs}
 use Rattle.trial.proofs.try_move.Statement.{statement}
 use Rattle.trial.proofs.try_move.Tie as tie

@@ -9,7 +9,8 @@ use Rattle.plan.specs.Input.{problemOf}
 use Rattle.fitness.specs.Fitness.{fitnessOf}
 use Rattle.trial.specs.declared.Best.the-variants.{Found}
 use Rattle.trial.specs.Trial.{counts}
-use Rattle.trial.proofs.WeighLaws.{weighed-kept, weighed-taken, list-kept, list-taken, denied, granted}
+use Rattle.graph.proofs.BoolLaws.{denied, granted}
+use Rattle.trial.proofs.WeighLaws.{weighed-kept, weighed-taken, list-kept, list-taken}
 use borrow.Author.Needs.{needs}
 use Rattle.trial.proofs.weigh_move.Statement.{statement}
 use Rattle.trial.proofs.weigh_move.Tie as tie
