@@ -1,2 +1,3 @@
 pub mod SurveyLaws
 pub mod SavingLaws
+pub mod StepLaws

@@ -1,24 +1,9 @@
--- What the functions of a step ask: a plan that was taken in, lines of it in cells that were timed, and room.
+-- What the functions of a step ask: lines in cells, and room.
 use Prim.Native.Nat.{ℕ, _≤_}
 use mathlib.Core.Path.{_≡_}
-use mathlib.Core.Bool.{Bool}
 use mathlib.Core.List.{List}
 use lib.ListN.{length}
-use Rattle.words.specs.Words.{words}
-use Rattle.plan.specs.Input.{problemOf, genesOf}
-use Rattle.plan.specs.Found.{Placed, Weighed, transportsOf}
-use Rattle.plan.specs.Accepted.{Accepted}
-use Rattle.plan.specs.declared.Layout.{Layout}
-use Rattle.tables.specs.Tabled.{Tabled}
 use Rattle.lines.specs.Lines.{linesIn, WellFormed}
-
--- A plan, its tables and its transports.
-pub record Given (s : List ℕ) (z : Layout) (table : List ℕ) (ways : List (List ℕ)) : Type 0 where
-  pub placed : Placed z
-  pub accepted : Accepted (problemOf (words s) z) (genesOf (words s) z)
-  pub weighed : Weighed (words s) z
-  pub tabled : Tabled (problemOf (words s) z) table
-  pub transports : ways ≡ transportsOf (problemOf (words s) z)
 
 -- Cells and lengths that hold lines of n activities on R machines.
 pub record Lined (n R : ℕ) (cells lens : List ℕ) : Type 0 where

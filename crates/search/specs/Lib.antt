@@ -1,3 +1,4 @@
 pub mod Step
 pub mod Asked
 pub mod Saving
+pub mod Search

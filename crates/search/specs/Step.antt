@@ -1,7 +1,5 @@
 -- Document 01, "One search step": what a step looks at and which moves it tries: block moves, then reassignments.
-use mathlib.Core.Path.{_≡_}
-use mathlib.Core.List.{List, [], _∷_, _++_}
-use Prim.Native.Nat.{ℕ}
+use mathlib.Core.List.{List, _++_}
 use Rattle.plan.specs.Problem.{Problem}
 use Rattle.lines.specs.Lines.{Lines}
 use Rattle.moves.specs.declared.Move.{Move}
@@ -13,6 +11,7 @@ use Rattle.path.specs.Tails.{tails}
 use Rattle.blocks.specs.BlockMoves.{blockMoves}
 use Rattle.blocks.specs.Keeping.{keepBestEstimated}
 use Rattle.reassign.specs.Reassignments.{bestReassignments}
+use Rattle.trial.specs.Trial.{movesOf}
 
 -- The lines as they are timed.
 abbrev pub placingOf : Problem → Lines → Placing
@@ -25,12 +24,8 @@ blocksBy p lines s = keepBestEstimated p lines s (tails p lines s) (blockMoves l
 abbrev pub othersBy : Problem → Lines → Placing → List Rated
 othersBy p lines s = bestReassignments p lines s (tails p lines s) (criticalPath p lines s)
 
-unfoldable pub madeOf : List Rated → List Move
-madeOf [] = []
-madeOf (x ∷ l) = x .made ∷ madeOf l
-
 abbrev pub movesBy : Problem → Lines → Placing → List Move
-movesBy p lines s = madeOf (blocksBy p lines s) ++ madeOf (othersBy p lines s)
+movesBy p lines s = movesOf (blocksBy p lines s) ++ movesOf (othersBy p lines s)
 
 -- All that a step tries, in order.
 abbrev pub movesFrom : Problem → Lines → List Move

@@ -15,7 +15,8 @@ ghost use Rattle.path.specs.Tails.{tails};
 ghost use Rattle.ranking.specs.Ranking.{ranked};
 ghost use Rattle.reassign.specs.Reassignments.{flexible};
 ghost use Rattle.search.specs.Step.{placingOf, blocksBy, othersBy};
-ghost use Rattle.search.specs.Asked.{Given, Lined, Space};
+ghost use Rattle.search.specs.Asked.{Lined, Space};
+ghost use Rattle.trial.specs.Trial.{Ready, AllAllowed};
 
 // Writes the links of the lines, the path from the place answered on, and the tails.
 fn survey(
@@ -35,7 +36,7 @@ fn survey(
     path: &mut [usize],
     tail: &mut [u64],
 ) -> usize
-    requires { ⌜ Given (now s) z (now table) ways × Lined (z .activities) (z .machines) (now cells) lens × Timed (problemOf (words (now s)) z) (linesIn (now cells) lens) (now order) (now starts) (now ends) ⌝ }
+    requires { ⌜ Ready (now s) z (now table) ways × Lined (z .activities) (z .machines) (now cells) lens × Timed (problemOf (words (now s)) z) (linesIn (now cells) lens) (now order) (now starts) (now ends) ⌝ }
     requires { ⌜ (length (now before) ≡ z .activities) × (length (now after) ≡ z .activities) × (length (now machines) ≡ z .activities) × (length (now places) ≡ z .activities) × (length (now path) ≡ z .activities) × (length (now tail) ≡ z .activities) ⌝ }
     ensures linked { λ _. ⌜ LinesHeld (z .activities) (linesIn (now (cells .entry)) lens) (linksOf (now (before .exit)) (now (after .exit)) (now (machines .exit)) (now (places .exit))) ⌝ }
     ensures walked { λ r. ⌜ (drop r (now (path .exit)) ≡ criticalPath (problemOf (words (now (s .entry))) z) (linesIn (now (cells .entry)) lens) (placingOf (problemOf (words (now (s .entry))) z) (linesIn (now (cells .entry)) lens))) × (r < z .activities) ⌝ }
@@ -68,10 +69,11 @@ pub fn find_moves(
     tail: &mut [u64],
     heads: &mut [u64],
 ) -> Moves
-    requires { ⌜ Given (now s) z (now table) ways × Lined (z .activities) (z .machines) (now cells) lens × Timed (problemOf (words (now s)) z) (linesIn (now cells) lens) (now order) (now starts) (now ends) × (choices ≡ flexible (problemOf (words (now s)) z)) ⌝ }
+    requires { ⌜ Ready (now s) z (now table) ways × Lined (z .activities) (z .machines) (now cells) lens × Timed (problemOf (words (now s)) z) (linesIn (now cells) lens) (now order) (now starts) (now ends) × (choices ≡ flexible (problemOf (words (now s)) z)) ⌝ }
     requires { ⌜ Space (z .activities) (now before) (now after) (now machines) (now places) (now path) (now tail) (now heads) ⌝ }
     ensures blocks { λ r. ⌜ (ranked (r .blocks) ≡ blocksBy (problemOf (words (now (s .entry))) z) (linesIn (now (cells .entry)) lens) (placingOf (problemOf (words (now (s .entry))) z) (linesIn (now (cells .entry)) lens))) × (r .blocks .count ≤ 3) ⌝ }
     ensures others { λ r. ⌜ (ranked (r .others) ≡ othersBy (problemOf (words (now (s .entry))) z) (linesIn (now (cells .entry)) lens) (placingOf (problemOf (words (now (s .entry))) z) (linesIn (now (cells .entry)) lens))) × (r .others .count ≤ 3) ⌝ }
+    ensures allowed { λ r. ⌜ AllAllowed (z .machines) (linesIn (now (cells .entry)) lens) (r .blocks) × AllAllowed (z .machines) (linesIn (now (cells .entry)) lens) (r .others) ⌝ }
 {
     let at = survey(
         s,

@@ -95,7 +95,7 @@ fn counts(forbidden: bool, best: f64, fitness: f64, held: Best) -> bool
 }
 
 // Copies times.
-fn copy_times(from: &[u64], to: &mut [u64])
+pub fn copy_times(from: &[u64], to: &mut [u64])
     requires { ⌜ length (now to) ≡ length (now from) ⌝ }
     ensures { λ _. ⌜ now (to .exit) ≡ now (from .entry) ⌝ }
 {
