@@ -44,15 +44,15 @@ pub fn best_move(
     tail: &mut [u64],
     heads: &mut [u64],
     tried: &mut [usize],
-    tried_starts: &mut [u64],
-    tried_ends: &mut [u64],
+    begins: &mut [u64],
+    finishes: &mut [u64],
     taken: &mut [usize],
     begun: &mut [u64],
     done: &mut [u64],
 ) -> Best
     requires { ⌜ Ready (now s) z (now table) ways × Lined (z .activities) (z .machines) (now cells) lens × Timed (problemOf (words (now s)) z) (linesIn (now cells) lens) (now order) (now starts) (now ends) × (choices ≡ flexible (problemOf (words (now s)) z)) ⌝ }
     requires { ⌜ Space (z .activities) (now before) (now after) (now machines) (now places) (now path) (now tail) (now heads) ⌝ }
-    requires { ⌜ Kept (z .activities) (now tried) (now tried_starts) (now tried_ends) × Kept (z .activities) (now taken) (now begun) (now done) ⌝ }
+    requires { ⌜ Kept (z .activities) (now tried) (now begins) (now finishes) × Kept (z .activities) (now taken) (now begun) (now done) ⌝ }
     ensures answer { λ r. ⌜ r ≡ triedAll (problemOf (words (now (s .entry))) z) (linesIn (now (cells .entry)) lens) (forbidden step pairs left (linesIn (now (cells .entry)) lens)) best (movesFrom (problemOf (words (now (s .entry))) z) (linesIn (now (cells .entry)) lens)) Nothing ⌝ }
     ensures holding { λ r. ⌜ Holding (problemOf (words (now (s .entry))) z) (linesIn (now (cells .entry)) lens) r (now (taken .exit)) (now (begun .exit)) (now (done .exit)) ⌝ }
     ensures lines { λ _. ⌜ linesIn (now (cells .exit)) lens ≡ linesIn (now (cells .entry)) lens ⌝ }
@@ -81,8 +81,8 @@ pub fn best_move(
         machines,
         places,
         tried,
-        tried_starts,
-        tried_ends,
+        begins,
+        finishes,
         taken,
         begun,
         done,
@@ -105,8 +105,8 @@ pub fn best_move(
         machines,
         places,
         tried,
-        tried_starts,
-        tried_ends,
+        begins,
+        finishes,
         taken,
         begun,
         done,
