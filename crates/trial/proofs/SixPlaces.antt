@@ -7,7 +7,7 @@ use mathlib.Core.Option.{Option, none, some}
 use mathlib.Core.Logic.{_⊎_, inl, inr, ⊎-elim}
 use native.Mathlib.Omega.{arith}
 use borrow.Author.Tests.{le-ltb}
-use lib.Dec.{eqb, ltb}
+use lib.Dec.{eqb}
 use lib.ListN.{length, getD, set, length-set}
 use lib.Seq.{getD-set-same, getD-set-other}
 use Rattle.graph.proofs.CountingLaws.{either}
@@ -17,7 +17,7 @@ use Rattle.moves.specs.declared.Move.the-variants.{Swap, Shift, Reassign}
 use Rattle.moves.specs.declared.Pairing.{Pairing}
 use Rattle.moves.specs.Moves.{pairOf}
 use Rattle.trial.specs.declared.Taboo.{Taboo}
-use Rattle.trial.specs.Taboo.{entry, outdated, fresh, live, names, listed, eitherWay, listing, forbidden, pairsAfter, leftAfter}
+use Rattle.trial.specs.Taboo.{entry, outdated, fresh, names, listed, eitherWay, listing, forbidden, pairsAfter, leftAfter}
 use Rattle.trial.specs.History.{pairMade, leftMade, sixPlaces, allEntries}
 
 -- ---- an outdated place used again

@@ -1,5 +1,5 @@
 -- Lines as a move leaves them can be timed, and their ends weighed. Assumes nothing.
-use Prim.Native.Nat.{ℕ, _+_, _≤_, _<_}
+use Prim.Native.Nat.{ℕ, _+_}
 use mathlib.Core.Path.{_≡_, sym, ap, _∙_, subst}
 use mathlib.Core.List.{List}
 use native.Mathlib.Omega.{arith}
@@ -16,8 +16,8 @@ use Rattle.intake.proofs.BareShop.{length-each}
 use Rattle.fitness.specs.Ended.{Ended}
 use Rattle.timing.specs.Timing.{spanAt, startOf}
 use Rattle.timing.proofs.EndLaws.{ends-most}
-use Rattle.timing.specs.Placing.{Timed, Rooms}
-use Rattle.trial.specs.Trial.{Allowed, Kept}
+use Rattle.timing.specs.Placing.{Timed}
+use Rattle.trial.specs.Trial.{Allowed}
 
 pub fit-of : {n R : ℕ} (cells lens : List ℕ) → WellFormed n R (linesIn cells lens) → Fit lens
 fit-of cells lens w m = omega (arith, line-long cells lens m, w .short m)

@@ -2,7 +2,7 @@
 use Prim.Native.Nat.{ℕ, suc, _+_, _≤_, _<_}
 use mathlib.Core.Path.{_≡_, refl, sym, ap, _∙_, subst}
 use mathlib.Core.Bool.{Bool}
-use mathlib.Core.List.{List, [], _∷_}
+use mathlib.Core.List.{List, [], _∷_, _++_}
 use native.Mathlib.Omega.{arith}
 use lib.Ieee.{Float}
 use lib.ListN.{length, getD, drop, length-drop}
@@ -11,16 +11,17 @@ use Rattle.plan.specs.Problem.{Problem}
 use Rattle.lines.specs.Lines.{Lines, linesIn}
 use Rattle.moves.specs.declared.Move.{Move}
 use Rattle.moves.specs.declared.Move.the-variants.{Swap, Shift, Reassign}
-use Rattle.moves.specs.Moves.{Holds, Fits, pairOf, stretches}
+use Rattle.moves.specs.Moves.{Holds, Fits, stretches}
 use Rattle.moves.specs.declared.Pairing.{Pairing}
 use Rattle.moves.proofs.PairLaws.{pair-of}
 use Rattle.ranking.specs.declared.Rated.{Rated}
 use Rattle.ranking.specs.declared.Three.{Three}
 use Rattle.ranking.specs.Ranking.{ranked}
+use Rattle.ranking.proofs.EveryLaws.{Every, every-held}
 use Rattle.timing.specs.Placing.{Rooms}
 use Rattle.trial.specs.declared.Taboo.{Taboo}
 use Rattle.trial.specs.declared.Best.{Best}
-use Rattle.trial.specs.Taboo.{eitherWay, forbidden}
+use Rattle.trial.specs.Taboo.{eitherWay, forbidden, listingPair, pairsAfter}
 use Rattle.trial.specs.Trial.{tried, triedAll, movesOf, Allowed, AllAllowed, Kept, Holding}
 
 -- what is read from the stretches is read from the lines
@@ -34,6 +35,17 @@ forbidden-in h step pairs left (Reassign a r i q j) f = refl
 pub forbidden-first : {cells lens : List ℕ} (lines : Lines) → Holds cells lens → linesIn cells lens ≡ lines → (step : ℕ) (pairs left : List Taboo) (m : Move) → Fits m (linesIn cells lens)
     → forbidden step pairs left (stretches cells) m ≡ forbidden step pairs left lines m
 forbidden-first lines h e step pairs left m f = forbidden-in h step pairs left m f ∙ ap (λ (l : Lines). forbidden step pairs left l m) e
+
+pub pairs-after-in : {cells lens : List ℕ} → Holds cells lens → (step : ℕ) (pairs : List Taboo) (m : Move) → Fits m (linesIn cells lens)
+    → pairsAfter step pairs (stretches cells) m ≡ pairsAfter step pairs (linesIn cells lens) m
+pairs-after-in h step pairs (Swap m i) f = ap (λ (x : Pairing). listingPair step pairs x) (pair-of h (Swap m i) f)
+pairs-after-in h step pairs (Shift m i j) f = ap (λ (x : Pairing). listingPair step pairs x) (pair-of h (Shift m i j) f)
+pairs-after-in h step pairs (Reassign a r i q j) f = refl
+
+-- what is so of every move offered
+pub all-allowed : {R : ℕ} {lines : Lines} (three : Three) → three .count ≤ 3 → Every (λ (x : Rated). Allowed R lines (x .made)) (ranked three) → AllAllowed R lines three
+all-allowed {R} {lines} three few e =
+    record { few = few; each = λ k h other. every-held (λ (x : Rated). Allowed R lines (x .made)) three few e k h other }
 
 -- the k-th is allowed on the same lines
 pub allowed-now : {R k : ℕ} {lines : Lines} {three : Three} (now : Lines) (rated : Rated) → now ≡ lines → AllAllowed R lines three → k < three .count → rated ≡ getD (ranked three) k rated
@@ -98,3 +110,10 @@ module _ (p : Problem) (lines : Lines) (forbid : Move → Bool) (best : Float) (
   all-tried b₀ b k few h rest =
       none-left (drop k (ranked three)) b (omega (arith, length-drop k (ranked three), length-take-le (three .count) (three .first ∷ three .second ∷ three .third ∷ []) few))
       ∙ rest
+
+-- some after others
+pub tried-append : (p : Problem) (lines : Lines) (forbid : Move → Bool) (best : Float) (l m : List Move) (b : Best)
+    → triedAll p lines forbid best (l ++ m) b ≡ triedAll p lines forbid best m (triedAll p lines forbid best l b)
+unfolding triedAll
+tried-append p lines forbid best [] m b = refl
+tried-append p lines forbid best (x ∷ l) m b = tried-append p lines forbid best l m (tried p lines (forbid x) best x b)

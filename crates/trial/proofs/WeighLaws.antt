@@ -89,6 +89,14 @@ module _ (p : Problem) (lines : Lines) where
         allowed = a;
       }
 
+-- nothing held asks nothing
+pub nothing-held : {p : Problem} {lines : Lines} {order starts ends : List ℕ} → Holding p lines Nothing order starts ends
+nothing-held = record { held = λ f m q. absurd (false-is-not-true (ap is-nothing (sym q))) }
+  where
+    is-nothing : Best → Bool
+    is-nothing Nothing = true
+    is-nothing (Found f m) = false
+
 -- ---- what tests of a negation say
 
 pub not-not : (b : Bool) {r : Bool} → r ≡ not b → r ≡ true → b ≡ false

@@ -1,13 +1,12 @@
 -- P6 of document 01: made at step 0, forbidden at 1 to 5, free at 6. Assumes nothing.
-use Prim.Native.Nat.{ℕ, _+_, _≤_, _<_}
-use mathlib.Core.Path.{_≡_, refl, ap, _∙_}
+use Prim.Native.Nat.{ℕ}
+use mathlib.Core.Path.{_≡_, refl}
 use mathlib.Core.Bool.{Bool, true, false, _&&_, _||_}
-use mathlib.Core.List.{List, [], _∷_}
+use mathlib.Core.List.{[], _∷_}
 use native.Mathlib.Omega.{arith}
 use borrow.Author.Tests.{le-ltb, eq-eqb}
 use lib.Dec.{ltb}
 use Rattle.lines.specs.Lines.{Lines}
-use Rattle.moves.specs.declared.Move.{Move}
 use Rattle.moves.specs.declared.Move.the-variants.{Swap, Reassign}
 use Rattle.moves.specs.Moves.{applied, swapAt}
 use Rattle.trial.specs.Taboo.{fresh, listed, listing, forbidden, pairsAfter, leftAfter}

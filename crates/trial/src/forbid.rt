@@ -3,7 +3,7 @@ ghost use mathlib.Core.Path.{_≡_};
 ghost use Prim.Native.Nat.{_<_, _+_};
 ghost use lib.ListN.{length};
 ghost use Rattle.moves.specs.Moves.{stretches, Reads};
-ghost use Rattle.trial.specs.Taboo.{names, listed, eitherWay, forbidden, listing, listingPair, pairsAfter, leftAfter};
+ghost use Rattle.trial.specs.Taboo.{names, listed, eitherWay, forbidden, listingPair, pairsAfter, leftAfter};
 use crate::Search;
 use crate::Taboo;
 use moves::Move;

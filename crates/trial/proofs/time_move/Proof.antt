@@ -1,11 +1,11 @@
 -- `trial::time_move` meets its contract: the move fits and leaves lines that can be timed, and its reverse restores them. Assumes nothing.
 use mathlib.Core.Bool.{not}
-use mathlib.Core.Path.{_≡_, sym, ap, _∙_}
+use mathlib.Core.Path.{_≡_, ap, _∙_}
 use denote.Ref.{now}
 use lib.ListN.{length}
 use Rattle.words.specs.Words.{words}
 use Rattle.plan.specs.Input.{problemOf}
-use Rattle.lines.specs.Lines.{Lines, linesIn}
+use Rattle.lines.specs.Lines.{Lines}
 use Rattle.timing.specs.Timing.{contradicts}
 use Rattle.trial.proofs.TimeLaws.{fit-of, moved-well-formed, back-fits, back-again, timed-on}
 use borrow.Author.Needs.{needs}

@@ -1,6 +1,5 @@
 -- `trial::try_move` meets its contract: lines that contradict change nothing held, others are weighed. Assumes nothing.
-use mathlib.Core.Bool.{true, false}
-use mathlib.Core.Path.{_≡_, sym, ap, _∙_}
+use mathlib.Core.Path.{_≡_, _∙_}
 use denote.Ref.{now}
 use lib.ListN.{length}
 use Rattle.words.specs.Words.{words}

@@ -10,10 +10,9 @@ use Rattle.lines.specs.Lines.{Lines, linesIn, WellFormed}
 use Rattle.moves.specs.Moves.{Holds}
 use Rattle.moves.proofs.PairLaws.{reads}
 use Rattle.trial.specs.Taboo.{forbidden}
-use Rattle.trial.specs.Trial.{tried, Holding, Allowed}
+use Rattle.trial.specs.Trial.{tried, Allowed}
 use Rattle.trial.proofs.TimeLaws.{fit-of}
 use Rattle.trial.proofs.TryLaws.{Trying, holding-on, forbidden-first, allowed-now, rooms-kept, kept-kept, next-tried, all-tried}
-use borrow.Author.Needs.{needs}
 use Rattle.trial.proofs.try_three.Statement.{statement}
 use Rattle.trial.proofs.try_three.Tie as tie
 

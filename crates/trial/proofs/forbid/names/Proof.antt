@@ -1,6 +1,5 @@
 -- `trial::forbid::names` meets its contract, a case for each test. Assumes nothing.
 use borrow.Author.Tests.{le-ltb, lt-ltb, eq-eqb, ne-eqb}
-use borrow.Author.Needs.{needs}
 use Rattle.trial.proofs.forbid.names.Statement.{statement}
 use Rattle.trial.proofs.forbid.names.Tie as tie
 
