@@ -22,15 +22,22 @@ use Rattle.blocks.specs.Scanning.{Pathed}
 use Rattle.blocks.proofs.EveryLaws as block-every
 use Rattle.blocks.proofs.FitLaws.{moves-fit, kept-fit}
 use Rattle.reassign.proofs.ReassignedLaws.{reassigns-fit, reassigns-within, held-reassigns}
-use Rattle.trial.specs.Trial.{triedAll, tried, movesOf, Allowed, AllAllowed}
+use Rattle.trial.specs.Trial.{triedAll, movesOf, Allowed, AllAllowed}
+use Rattle.trial.proofs.TryLaws.{tried-append}
 use Rattle.trial.specs.declared.Best.{Best}
-use Rattle.search.specs.Step.{placingOf, blocksBy, othersBy}
+use Rattle.trial.specs.declared.Best.the-variants.{Nothing}
+use Rattle.search.specs.Step.{placingOf, blocksBy, othersBy, movesFrom}
 
-pub tried-append : (p : Problem) (lines : Lines) (forbid : Move → Bool) (best : Float) (xs ys : List Move) (b : Best)
-    → triedAll p lines forbid best (xs ++ ys) b ≡ triedAll p lines forbid best ys (triedAll p lines forbid best xs b)
-unfolding triedAll
-tried-append p lines forbid best [] ys b = refl
-tried-append p lines forbid best (x ∷ xs) ys b = tried-append p lines forbid best xs ys (tried p lines (forbid x) best x b)
+-- Block moves, then reassignments, on lines that were put back in between.
+pub all-tried : (p : Problem) (lines lines′ : Lines) → lines′ ≡ lines → (forbid : Lines → Move → Bool) (best : Float) {blocks others : List Rated} {b r : Best}
+    → blocks ≡ blocksBy p lines (placingOf p lines) → others ≡ othersBy p lines (placingOf p lines)
+    → b ≡ triedAll p lines (forbid lines) best (movesOf blocks) Nothing → r ≡ triedAll p lines′ (forbid lines′) best (movesOf others) b
+    → r ≡ triedAll p lines (forbid lines) best (movesFrom p lines) Nothing
+all-tried p lines lines′ e forbid best {blocks} {others} {b} {r} eb eo hb hr =
+    hr ∙ ap (λ (l : Lines). triedAll p l (forbid l) best (movesOf others) b) e
+    ∙ ap (λ (x : Best). triedAll p lines (forbid lines) best (movesOf others) x) hb
+    ∙ sym (tried-append p lines (forbid lines) best (movesOf blocks) (movesOf others) Nothing)
+    ∙ ap (λ (l : List Move). triedAll p lines (forbid lines) best l Nothing) (ap (λ (x : List Rated). movesOf x ++ movesOf others) eb ∙ ap (λ (x : List Rated). movesOf (blocksBy p lines (placingOf p lines)) ++ movesOf x) eo)
 
 length-ranked : (three : Three) → three .count ≤ 3 → length (ranked three) ≡ three .count
 length-ranked three h = omega (arith, length-take (three .count) (three .first ∷ three .second ∷ three .third ∷ []))

@@ -58,7 +58,22 @@ pub fn best_move(
     ensures lines { λ _. ⌜ linesIn (now (cells .exit)) lens ≡ linesIn (now (cells .entry)) lens ⌝ }
 {
     let moves = find_moves(
-        s, z, table, ways, choices, cells, lens, order, starts, ends, before, after, machines, places, path, tail,
+        s,
+        z,
+        table,
+        ways,
+        choices,
+        cells,
+        lens,
+        order,
+        starts,
+        ends,
+        before,
+        after,
+        machines,
+        places,
+        path,
+        tail,
         heads,
     );
     let blocks = moves.blocks;

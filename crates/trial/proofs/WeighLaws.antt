@@ -91,7 +91,7 @@ module _ (p : Problem) (lines : Lines) where
 
 -- nothing held asks nothing
 pub nothing-held : {p : Problem} {lines : Lines} {order starts ends : List ℕ} → Holding p lines Nothing order starts ends
-nothing-held = record { held = λ f m q. absurd (false-is-not-true (ap is-nothing (sym q))) }
+nothing-held = record { held = λ f m q. absurd (false≢true (ap is-nothing (sym q))) }
   where
     is-nothing : Best → Bool
     is-nothing Nothing = true
