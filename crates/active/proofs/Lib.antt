@@ -1,0 +1,7 @@
+pub mod RankLaws
+pub mod SeatNowLaws
+pub mod ScanLaws
+pub mod ChoiceLaws
+pub mod SeenLaws
+pub mod PlacingLaws
+pub mod Theorem
