@@ -1,3 +1,4 @@
 pub mod SurveyLaws
 pub mod SavingLaws
 pub mod StepLaws
+pub mod StepsLaws

@@ -39,8 +39,16 @@ abbrev pub bestFrom : Problem → (step : ℕ) → State → Best
 bestFrom p step st =
     triedAll p (st .lines) (forbidden step (st .pairs) (st .left) (st .lines)) (st .best) (movesFrom p (st .lines)) Nothing
 
+abbrev pub genesBy : Problem → (n : ℕ) → (order : List ℕ) → Lines → Saved
+genesBy p n order lines = saved (tasksOf p order) (each (machineOf lines) n 0)
+
 abbrev pub genesOn : Problem → Lines → Saved
-genesOn p lines = saved (tasksOf p (timingOrder p lines)) (each (machineOf lines) (p .n) 0)
+genesOn p lines = genesBy p (p .n) (timingOrder p lines) lines
+
+-- What two lists hold, if anything was saved in them.
+abbrev pub savedOf : Bool → (tasks machines : List ℕ) → Saved
+savedOf true tasks machines = saved tasks machines
+savedOf false tasks machines = unsaved
 
 abbrev pub savedIf : Bool → Saved → Saved → Saved
 savedIf true new old = new
@@ -73,8 +81,11 @@ stepsFrom p (suc most) step (Found f m) st =
 abbrev pub begun : Problem → Lines → State
 begun p lines = record { lines = lines; pairs = fresh; left = fresh; best = lineFitness p lines; found = unsaved }
 
+abbrev pub searchedTo : Problem → (limit : ℕ) → Lines → State
+searchedTo p limit lines = stepsFrom p limit 0 (bestFrom p 0 (begun p lines)) (begun p lines)
+
 abbrev pub searched : Problem → Lines → State
-searched p lines = stepsFrom p (p .limit) 0 (bestFrom p 0 (begun p lines)) (begun p lines)
+searched p lines = searchedTo p (p .limit) lines
 
 -- ---- what Improve answers, by document 01's numbers 10 to 14
 
