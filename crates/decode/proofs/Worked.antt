@@ -5,8 +5,7 @@ use Prim.Native.Nat.{ℕ}
 use mathlib.Core.Path.{_≡_, refl}
 use mathlib.Core.List.{List, [], _∷_}
 use mathlib.Core.Option.{Option, none, some}
-use lib.IntN.{pos, negsuc}
-use lib.Ieee.{Float, fin, binary64, add, sub, mul, ofInt, lt, ofBits}
+use lib.Ieee.{add, sub, mul, ofInt, lt, ofBits}
 use lib.ListN.{getD}
 use Rattle.graph.specs.Counting as counting
 use Rattle.graph.specs.Shop as shop
@@ -23,7 +22,7 @@ use Rattle.board.specs.Board.{Board}
 use Rattle.board.specs.Board as board
 use Rattle.in_order.specs.InOrder as order
 use Rattle.active.specs.Active as active
-use Rattle.decode.specs.Decode.{betterPlacement, sheetFitness}
+use Rattle.decode.specs.Decode.{betterPlacement}
 
 abbrev planS : Problem
 planS = problemOf wordsOfS (layoutOf readingOfS)
