@@ -1,17 +1,15 @@
 -- The loops that look for the lead and for the least rank, and what holds of the one that is chosen.
-use Prim.Native.Nat.{ℕ, zero, suc, _+_, _-_, _≤_, _<_}
+use Prim.Native.Nat.{ℕ, _+_, _-_, _≤_, _<_}
 use mathlib.Core.Path.{_≡_, refl, sym, ap, ap₂, _∙_, subst}
 use mathlib.Core.Bool.{Bool, true, false, _&&_, _||_}
 use mathlib.Core.List.{List, [], _∷_, _++_}
 use native.Mathlib.Omega.{arith}
-use native.Mathlib.Numerals.{add-one}
 use lib.Dec.{eqb, ltb, leb}
 use lib.ListN.{length, getD, drop}
 use lib.Seq.{drop-length}
 use Rattle.board.specs.declared.Seat.{Seat}
 use Rattle.in_order.proofs.ReadyLaws.{next-of, none-left}
 use Rattle.active.specs.Active.{rank, pickSeat, sooner, leadFrom, leadOf, contends, preferred, leastRank, chosenOf}
-use Rattle.active.specs.declared.Choice.{Choice}
 use Rattle.active.specs.declared.Choice.the-variants.{Nothing, Sits}
 
 -- ---- what holds of all of a list

@@ -5,3 +5,4 @@ pub mod ChoiceLaws
 pub mod SeenLaws
 pub mod PlacingLaws
 pub mod Theorem
+pub mod Worked

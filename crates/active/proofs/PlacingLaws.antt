@@ -1,9 +1,8 @@
 -- The loop that places: the board so far, with the rest placed upon it, is the whole.
-use Prim.Native.Nat.{ℕ, zero, suc, _+_, _-_, _≤_, _<_, _^_}
+use Prim.Native.Nat.{ℕ, zero, suc, _+_, _-_, _≤_, _<_}
 use mathlib.Core.Path.{_≡_, refl, sym, ap, ap₂, _∙_, subst}
-use mathlib.Core.List.{List, [], _∷_, _++_}
+use mathlib.Core.List.{List, [], _∷_}
 use native.Mathlib.Omega.{arith}
-use native.Mathlib.Numerals.{add-one}
 use lib.ListN.{length, getD, set, take, length-set, length-append}
 use lib.Seq.{getD-set-other, length-take-le}
 use Rattle.plan.specs.Problem.{Problem, Genes}
@@ -15,13 +14,13 @@ use Rattle.board.specs.Board.{Board, emptyBoard, sit}
 use Rattle.board.specs.Sound.{Sound}
 use Rattle.board.specs.declared.Seat.{Seat}
 use Rattle.board.proofs.BoardLaws.{empty-sound, room-left, seat-sound, ends-within}
-use Rattle.active.specs.Active.{Scan, scanOf, seatNow, chosenOf, withSettled, scanned, choiceOn, placeFrom, placeAll}
-use Rattle.active.specs.Asked.{Timely, Chosen, Begun}
+use Rattle.active.specs.Active.{scanOf, seatNow, withSettled, scanned, choiceOn, placeFrom, placeAll}
+use Rattle.active.specs.Asked.{Chosen, Begun}
 use Rattle.active.specs.declared.Choice.{Choice}
 use Rattle.active.specs.declared.Choice.the-variants.{Nothing, Sits}
 use Rattle.active.proofs.SeatNowLaws.{seat-by-rule}
-use Rattle.active.proofs.ChoiceLaws.{All, all-map, chosen-has}
-use Rattle.active.proofs.SeenLaws.{Seen, scan-seen}
+use Rattle.active.proofs.ChoiceLaws.{all-map, chosen-has}
+use Rattle.active.proofs.SeenLaws.{scan-seen}
 
 -- A seat that can be taken on a board.
 pub record Fine (p : Problem) (b : Board) (x : Seat) : Type 0 where

@@ -1,11 +1,11 @@
 -- The two loops of a scan: what is left to scan, upon what was scanned, gives what the whole does.
-use Prim.Native.Nat.{ℕ, zero, suc, _+_, _-_, _≤_, _<_}
+use Prim.Native.Nat.{ℕ, suc, _+_, _-_, _≤_, _<_}
 use mathlib.Core.Path.{_≡_, refl, sym, ap, ap₂, _∙_}
 use mathlib.Core.Bool.{Bool, true, false}
 use mathlib.Core.List.{List, [], _∷_, _++_, append-nil}
 use native.Mathlib.Omega.{arith}
 use native.Mathlib.Numerals.{add-one}
-use lib.ListN.{length, getD, set, take, length-set}
+use lib.ListN.{length, set, take, length-set}
 use lib.Seq.{take-suc-set, length-take-le}
 use Rattle.plan.specs.Problem.{Problem, Genes}
 use Rattle.plan.specs.Accepted.{Accepted}

@@ -1,24 +1,23 @@
 -- What a candidate's seat asks is there, and what is worked out is its seat.
-use Prim.Native.Nat.{ℕ, _+_, _≤_, _<_, _^_}
-use mathlib.Core.Path.{_≡_, refl, sym, ap, _∙_}
-use mathlib.Core.Bool.{Bool, true, false}
-use mathlib.Core.List.{List, [], _∷_}
+use Prim.Native.Nat.{ℕ, _<_, _^_}
+use mathlib.Core.Path.{_≡_, refl}
+use mathlib.Core.Bool.{true, false}
+use mathlib.Core.List.{List}
 use mathlib.Core.Option.{Option, none, some}
 use native.Mathlib.Omega.{arith}
-use lib.ListN.{length, getD}
+use lib.ListN.{getD}
 use Rattle.graph.specs.Counting.{Below}
 use Rattle.graph.specs.Links.{linked}
 use Rattle.graph.specs.declared.Link.{Link}
 use Rattle.graph.specs.declared.Link.the-variants.{To, Nothing}
 use Rattle.plan.specs.Problem.{Problem, Genes}
-use Rattle.plan.specs.Accepted.{Accepted, longest}
+use Rattle.plan.specs.Accepted.{Accepted}
 use Rattle.timing.specs.Placing.{machineBefore}
 use Rattle.genes.specs.Indexed.{assignedTo, isAssigned}
 use Rattle.genes.proofs.MachineLaws.{assigned-known}
 use Rattle.board.specs.Board.{Board, lastPlaced, seatAfter, seat}
 use Rattle.board.specs.Sound.{Sound}
 use Rattle.board.specs.declared.Seat.{Seat}
-use Rattle.board.proofs.SeatLaws.{last-below}
 use Rattle.board.proofs.BoardLaws.{seat-is}
 use Rattle.active.specs.Active.{seatNow}
 

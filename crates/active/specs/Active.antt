@@ -5,7 +5,7 @@ use Prim.Native.Nat.{ℕ, zero, suc, _+_}
 use mathlib.Core.Bool.{Bool, true, false, not, _&&_, _||_}
 use mathlib.Core.List.{List, [], _∷_, _++_}
 use lib.Dec.{eqb, ltb, leb}
-use lib.ListN.{length, getD, set, take, replicate}
+use lib.ListN.{length, getD, set, replicate}
 use Rattle.plan.specs.Problem.{Problem, Genes}
 use Rattle.timing.specs.Placing.{machineBefore}
 use Rattle.genes.specs.Indexed.{indexed, assignedTo, isAssigned}

@@ -1,1 +1,3 @@
 pub mod EndLaws
+pub mod Worked
+pub mod Theorem

@@ -1,6 +1,5 @@
 -- `decode::active_fitness` meets its contract: the sheet is left in cells of its own.
-use mathlib.Core.Path.{_≡_, sym}
-use native.Mathlib.Omega.{arith}
+use mathlib.Core.Path.{sym}
 use Rattle.decode.proofs.EndLaws.{zeros-long, zeros-roomy}
 use borrow.Author.Needs.{needs}
 use Rattle.decode.proofs.active_fitness.Statement.{statement}

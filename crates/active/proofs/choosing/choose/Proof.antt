@@ -1,14 +1,12 @@
 -- `active::choosing::choose` meets its contract.
-use Prim.Native.Nat.{ℕ, _<_}
-use mathlib.Core.Path.{_≡_, refl, sym, ap, _∙_, subst}
-use mathlib.Core.List.{List}
+use Prim.Native.Nat.{_<_}
+use mathlib.Core.Path.{refl, sym, ap, _∙_}
 use native.Mathlib.Omega.{arith}
 use denote.Ref.{now}
 use lib.ListN.{length}
 use Rattle.words.specs.Words.{words}
 use Rattle.plan.specs.Input.{problemOf, genesOf}
-use Rattle.board.specs.declared.Seat.{Seat}
-use Rattle.active.specs.Active.{Scan, seatNow, chosenOf, scanOf}
+use Rattle.active.specs.Active.{Scan, seatNow, scanOf}
 use Rattle.active.proofs.ChoiceLaws.{none-chosen, one-chosen-of}
 use Rattle.active.proofs.SeenLaws.{scan-below, lead-known-of}
 use borrow.Author.Needs.{needs}

@@ -1,9 +1,9 @@
 -- `active::choosing::lead_of` meets its contract. The loop's invariant: the lead of the rest and the best so far is the lead of all.
-use Prim.Native.Nat.{ℕ, _-_, _<_}
-use mathlib.Core.Path.{_≡_, refl, sym, ap, _∙_}
+use Prim.Native.Nat.{_-_}
+use mathlib.Core.Path.{ap}
 use native.Mathlib.Omega.{arith}
 use denote.Ref.{now}
-use lib.ListN.{length, getD}
+use lib.ListN.{length}
 use Rattle.words.specs.Words.{words}
 use Rattle.plan.specs.Input.{problemOf, genesOf}
 use Rattle.graph.proofs.CountingLaws.{below-at}

@@ -1,5 +1,5 @@
 -- `active::choosing::preferred` meets its contract.
-use mathlib.Core.Path.{_≡_, sym, _∙_}
+use mathlib.Core.Path.{sym, _∙_}
 use borrow.Author.Tests.{le-leb, lt-leb}
 use Rattle.active.proofs.RankLaws.{denied, granted}
 use denote.Ref.{now}

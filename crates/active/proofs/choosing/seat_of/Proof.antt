@@ -2,10 +2,9 @@
 use native.Mathlib.Omega.{arith}
 use denote.Ref.{now}
 use Rattle.words.specs.Words.{words}
-use Rattle.plan.specs.Input.{problemOf, genesOf}
+use Rattle.plan.specs.Input.{problemOf}
 use Rattle.genes.proofs.MachineLaws.{assigned-known}
 use Rattle.board.proofs.SeatLaws.{last-below}
-use mathlib.Core.Path.{_≡_, sym, ap, _∙_}
 use Rattle.active.proofs.SeatNowLaws.{one-below, from-known, way-small, seat-now-is}
 use borrow.Author.Needs.{needs}
 use Rattle.active.proofs.choosing.seat_of.Statement.{statement}

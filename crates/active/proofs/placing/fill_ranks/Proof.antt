@@ -1,6 +1,6 @@
 -- `active::placing::fill_ranks` meets its contract: all have the order's length, then each of the order its place.
 use Prim.Native.Nat.{ℕ}
-use mathlib.Core.Path.{_≡_, sym, ap, ap₂, _∙_}
+use mathlib.Core.Path.{sym, ap, ap₂, _∙_}
 use mathlib.Core.List.{List}
 use denote.Ref.{now}
 use lib.ListN.{length, replicate}

@@ -1,14 +1,13 @@
 -- `active::placing::place_active` meets its contract: ranks are given, and a board of its own is placed upon.
 use Prim.Native.Nat.{ℕ}
-use mathlib.Core.Path.{_≡_, refl, sym, ap, _∙_, subst}
+use mathlib.Core.Path.{_≡_, refl, sym, ap, _∙_}
 use mathlib.Core.List.{List}
 use native.Mathlib.Omega.{arith}
 use denote.Ref.{now}
-use lib.ListN.{length, take, replicate, length-replicate}
+use lib.ListN.{length, take, replicate}
 use lib.Seq.{length-take-le}
 use Rattle.words.specs.Words.{words}
 use Rattle.plan.specs.Input.{problemOf, genesOf}
-use Rattle.genes.specs.Held.{Listed}
 use Rattle.board.specs.Board.{Board, emptyBoard}
 use Rattle.active.specs.Active.{placeAll}
 use borrow.Author.Needs.{needs}

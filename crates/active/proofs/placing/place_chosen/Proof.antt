@@ -1,15 +1,13 @@
 -- `active::placing::place_chosen` meets its contract. The loop's invariant: placing the rest upon the board so far gives what placing all does.
-use Prim.Native.Nat.{ℕ, _-_, _<_}
-use mathlib.Core.Path.{_≡_, refl, sym, ap, _∙_}
-use mathlib.Core.List.{List}
+use Prim.Native.Nat.{_-_}
+use mathlib.Core.Path.{refl}
 use native.Mathlib.Omega.{arith}
 use denote.Ref.{now}
-use lib.ListN.{length, getD}
 use Rattle.words.specs.Words.{words}
 use Rattle.plan.specs.Input.{problemOf, genesOf}
-use Rattle.board.specs.Board.{Board, boardOf}
+use Rattle.board.specs.Board.{boardOf}
 use Rattle.board.proofs.BoardLaws.{sit-room}
-use Rattle.active.proofs.PlacingLaws.{Fine, Placing, place-begin, place-asks, scan-sound, place-end, place-listed, fine, more, has-room, place-again}
+use Rattle.active.proofs.PlacingLaws.{Placing, place-begin, place-asks, scan-sound, place-end, place-listed, fine, more, has-room, place-again}
 use borrow.Author.Needs.{needs}
 use Rattle.active.proofs.placing.place_chosen.Statement.{statement}
 use Rattle.active.proofs.placing.place_chosen.Tie as tie

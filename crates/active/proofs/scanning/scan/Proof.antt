@@ -1,6 +1,6 @@
 -- `active::scanning::scan` meets its contract. Both loops' invariants: what is left to scan gives, upon what was scanned, what the whole does.
-use Prim.Native.Nat.{ℕ, _-_, _+_}
-use mathlib.Core.Path.{_≡_, refl, sym, ap, _∙_}
+use Prim.Native.Nat.{_-_}
+use mathlib.Core.Path.{sym, ap, _∙_}
 use native.Mathlib.Omega.{arith}
 use denote.Ref.{now}
 use lib.ListN.{length, length-set}

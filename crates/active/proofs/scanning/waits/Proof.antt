@@ -1,6 +1,5 @@
 -- `active::scanning::waits` meets its contract: the activities that it names are asked for.
-use mathlib.Core.Path.{_≡_, sym, ap, _∙_}
-use native.Mathlib.Omega.{arith}
+use mathlib.Core.Path.{ap, _∙_}
 use denote.Ref.{now}
 use lib.ListN.{length}
 use Rattle.graph.proofs.CountingLaws.{below-more}
