@@ -4,6 +4,8 @@ use mathlib.Core.Path.{_≡_}
 use mathlib.Core.List.{List}
 use lib.ListN.{length, getD, take}
 use Rattle.graph.specs.Counting.{Below}
+use Rattle.plan.specs.Problem.{Problem}
+use Rattle.in_order.specs.Waiting.{Naming}
 use Rattle.board.specs.Board.{Board, emptyBoard}
 use Rattle.board.specs.Sound.{Sound, Sized}
 use Rattle.active.specs.Active.{Scan}
@@ -45,3 +47,10 @@ pub record Started (n : ℕ) (ranks order : List ℕ) (b : Board) : Type 0 where
   pub ranked : length ranks ≡ 128
   pub roomy : n ≤ length order
   pub sized : Sized n b
+
+-- The table holds some problem that has the activity, with a flag for each.
+pub record Flagged (table settled : List ℕ) (a : ℕ) : Type 0 where
+  pub problem : Problem
+  pub naming : Naming problem table
+  pub roomy : problem .n ≤ length settled
+  pub here : a < problem .n

@@ -11,9 +11,9 @@ ghost use Rattle.plan.specs.Input.{problemOf, genesOf};
 ghost use Rattle.plan.specs.Found.{Placed};
 ghost use Rattle.plan.specs.Accepted.{Accepted};
 ghost use Rattle.tables.specs.Tabled.{Tabled};
-ghost use Rattle.in_order.specs.Waiting.{Naming, Flagged};
+ghost use Rattle.in_order.specs.Waiting.{Naming};
 ghost use Rattle.active.specs.Active.{rankedFrom, anyUnsettled, stopsAt, scanOf};
-ghost use Rattle.active.specs.Asked.{scanIn};
+ghost use Rattle.active.specs.Asked.{scanIn, Flagged};
 
 // Gives each of the order its place as its rank.
 pub fn put_ranks(activities: &[usize], ranks: &mut [usize])
