@@ -1,2 +1,4 @@
 pub mod LineLaws
 pub mod SeatedLaws
+pub mod LawfulLaws
+pub mod InOrderLaws

@@ -1,0 +1,100 @@
+-- Whoever is taken in order is ready: where everybody is in the order, what it waits for was taken before it, and so is settled.
+use Prim.Native.Nat.{ℕ, zero, suc, _+_, _-_, _≤_, _<_}
+use mathlib.Core.Path.{_≡_, refl, sym, ap, _∙_, subst}
+use mathlib.Core.Bool.{Bool, true, false, not, _&&_, _||_}
+use mathlib.Core.List.{List, [], _∷_}
+use mathlib.Core.Logic.{_⊎_, inl, inr, ⊎-elim}
+use mathlib.Core.Option.{Option, none, some, Option·getD}
+use native.Mathlib.Omega.{arith}
+use borrow.Author.Tests.{eq-eqb, eqb-true, not-true}
+use lib.Dec.{eqb}
+use lib.ListN.{length, getD, set, replicate, length-set}
+use lib.Seq.{getD-set-same, getD-set-other}
+use Rattle.graph.specs.Counting.{countOf, hit, sumTo, Below}
+use Rattle.graph.specs.declared.Link.{Link}
+use Rattle.graph.specs.declared.Link.the-variants.{To, Nothing}
+use Rattle.graph.proofs.CountingLaws.{hit-eq, hit-ne, either, below-of, below-more, count-all, sumTo-full}
+use Rattle.graph.proofs.NamingLaws.{zeros-at}
+use Rattle.plan.specs.Problem.{Problem, Genes}
+use Rattle.plan.specs.Accepted.{Accepted}
+use Rattle.lines.proofs.LinkLaws.{marked-length}
+use Rattle.genes.specs.Indexed.{indexed, assignedTo}
+use Rattle.genes.proofs.TaskLaws.{same-task}
+use Rattle.genes.proofs.MachineLaws.{assigned-known}
+use Rattle.genes.proofs.IndexedLaws.{indexed-below}
+use Rattle.board.specs.Board.{Board, emptyBoard, seat, sit}
+use Rattle.in_order.specs.InOrder.{isPending, anyPending, earlierPending, isReady, canCome, firstReady, readyFrom, allPending, readyOrder, seatOrSettle, sitAll, placeInOrder}
+use Rattle.in_order.proofs.PendingLaws.{and-true, marked-in}
+use Rattle.in_order.proofs.TakingLaws.{first-is, first-pending}
+use Rattle.accepted_sheets.specs.Orderly.{Settled, Orderly, Next}
+use Rattle.accepted_sheets.proofs.SeatedLaws.{put, stays, was, settle-orderly, sit-orderly, empty-orderly}
+
+or-false : (s t : Bool) → (s || t) ≡ false → (s ≡ false) × (t ≡ false)
+or-false true t e = let z : _≡_ {A = ℕ} 0 1 = cc in absurd (omega arith)
+or-false false t e = (refl, e)
+
+-- ---- what is not pending
+
+unmarked : (pending : List ℕ) (a : ℕ) → isPending pending a ≡ false → getD pending a 0 ≡ 1 → ⊥
+unmarked pending a e h = let f = eq-eqb (getD pending a 0) 1 h in let z : _≡_ {A = ℕ} 0 1 = cc in omega arith
+
+none-pending : (pending l : List ℕ) (q : ℕ) → anyPending pending l ≡ false → 0 < countOf q l → getD pending q 0 ≡ 1 → ⊥
+unfolding anyPending countOf
+none-pending pending [] q e h s = omega arith
+none-pending pending (b ∷ l) q e h s =
+    let o = or-false (isPending pending b) (anyPending pending l) e in
+    either b q (λ y. unmarked pending b (o .0) (subst (λ (x : ℕ). getD pending x 0 ≡ 1) (sym y) s))
+    (λ ne. none-pending pending l q (o .1) (omega (arith, h, hit-ne b q ne)) s)
+
+module _ {p : Problem} {g : Genes} (ok : Accepted p g) where
+  -- The numbers between two steps of a task are steps of it.
+  pub between : (q k a : ℕ) → q ≤ k → k ≤ a → a < p .n → p .taskOf q ≡ p .taskOf a → p .taskOf k ≡ p .taskOf a
+  between q k a h l n e =
+      let t = p .taskOf a in
+      let low = ok .owned q (omega arith) in
+      let mid = ok .owned k (omega arith) in
+      let high = ok .owned a n in
+      let same : p .first (p .taskOf q) ≡ p .first t = ap (p .first) e in
+      same-task ok (p .taskOf k) t (k - p .first (p .taskOf k)) (k - p .first t) (omega (arith, mid .0, mid .1)) (omega (arith, same, low .0, high .1)) (omega (arith, same, low .0, mid .0))
+
+  none-earlier : (pending : List ℕ) (a q : ℕ) → a < p .n → earlierPending p pending a ≡ false → q < a → p .taskOf q ≡ p .taskOf a → getD pending q 0 ≡ 1 → ⊥
+  unfolding earlierPending
+  none-earlier pending zero q n e h s f = omega arith
+  none-earlier pending (suc a) q n e h s f =
+      let same = between q a (suc a) (omega arith) (omega arith) n s in
+      let o : (isPending pending a || earlierPending p pending a) ≡ false = rw (eq-eqb (p .taskOf a) (p .taskOf (suc a)) same) at e in
+      let w = or-false (isPending pending a) (earlierPending p pending a) o in
+      either q a (λ y. unmarked pending a (w .0) (subst (λ (x : ℕ). getD pending x 0 ≡ 1) y f))
+      (λ ne. none-earlier pending a q (omega arith) (w .1) (omega (arith, h, ne)) (s ∙ sym same) f)
+
+  -- ---- pending or settled
+
+  -- everybody below n is one of the two
+  pub record Sorted (pending : List ℕ) (b : Board) : Type 0 where
+    pub sized : length pending ≡ 128
+    pub left : (q : ℕ) → q < p .n → getD pending q 0 ≡ 1 → getD (b .settled) q 0 ≡ 0
+    pub gone : (q : ℕ) → q < p .n → (getD pending q 0 ≡ 1 → ⊥) → Settled b q
+
+  module _ (activities : List ℕ) (known : Below (p .n) activities) where
+    ready-next : {pending : List ℕ} {b : Board} → Sorted pending b → (a : ℕ) → firstReady p pending activities ≡ To a → Next p b a
+    ready-next {pending} {b} s a e =
+        let f = first-is p pending activities a e in
+        let here = below-of (p .n) a activities known (f .0) in
+        let r = not-true (anyPending pending (p .predecessors a) || earlierPending p pending a) (and-true (isPending pending a) (isReady p pending a) (f .1) .1) in
+        let o = or-false (anyPending pending (p .predecessors a)) (earlierPending p pending a) r in
+        record {
+          here = here;
+          free = s .left a here (first-pending p pending activities a e);
+          steps = λ q l t. s .gone q (omega (arith, l, here)) (none-earlier pending a q here (o .1) l t);
+          named = λ q h. s .gone q (below-of (p .n) q (p .predecessors a) (ok .predecessors a) h) (none-pending pending (p .predecessors a) q (o .0) h);
+        }
+
+    one-orderly : {b : Board} → Orderly p (assignedTo g) b → (a : ℕ) → Next p b a → (o : Option ℕ) → g .assigned a ≡ o → Orderly p (assignedTo g) (seatOrSettle p g a o b)
+    one-orderly {b} w a next none e = settle-orderly w a (next .here) (next .steps)
+    one-orderly {b} w a next (some m) e =
+        let f : assignedTo g a ≡ m = ap (λ (o : Option ℕ). Option·getD o 0) e in
+        subst (λ (k : ℕ). Orderly p (assignedTo g) (sit p (seat p (assignedTo g) b a k) b)) f (sit-orderly ok (assigned-known ok) w next)
+
+    one-settled : (b : Board) (a : ℕ) (o : Option ℕ) → seatOrSettle p g a o b .settled ≡ set (b .settled) a 1
+    one-settled b a none = refl
+    one-settled b a (some m) = refl
