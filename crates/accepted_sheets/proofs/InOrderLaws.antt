@@ -11,6 +11,7 @@ use lib.Dec.{eqb}
 use lib.ListN.{length, getD, set, replicate, length-set}
 use lib.Seq.{getD-set-same, getD-set-other}
 use Rattle.graph.specs.Counting.{countOf, hit, sumTo, Below}
+use Rattle.graph.specs.Filing.{consIf}
 use Rattle.graph.specs.declared.Link.{Link}
 use Rattle.graph.specs.declared.Link.the-variants.{To, Nothing}
 use Rattle.graph.proofs.CountingLaws.{hit-eq, hit-ne, either, below-of, below-more, count-all, sumTo-full}
@@ -18,14 +19,16 @@ use Rattle.graph.proofs.NamingLaws.{zeros-at}
 use Rattle.plan.specs.Problem.{Problem, Genes}
 use Rattle.plan.specs.Accepted.{Accepted}
 use Rattle.lines.proofs.LinkLaws.{marked-length}
-use Rattle.genes.specs.Indexed.{indexed, assignedTo}
+use Rattle.genes.specs.Indexed.{indexed, assignedTo, isAssigned}
 use Rattle.genes.proofs.TaskLaws.{same-task}
 use Rattle.genes.proofs.MachineLaws.{assigned-known}
 use Rattle.genes.proofs.IndexedLaws.{indexed-below}
-use Rattle.board.specs.Board.{Board, emptyBoard, seat, sit}
+use Rattle.board.specs.Board.{Board, emptyBoard, those, seat, sit}
 use Rattle.in_order.specs.InOrder.{isPending, anyPending, earlierPending, isReady, canCome, firstReady, readyFrom, allPending, readyOrder, seatOrSettle, sitAll, placeInOrder}
-use Rattle.in_order.proofs.PendingLaws.{and-true, marked-in}
+use Rattle.in_order.proofs.PendingLaws.{and-true, marked-in, pending-most}
 use Rattle.in_order.proofs.TakingLaws.{first-is, first-pending}
+use Rattle.in_order.proofs.OrderLaws.{ready-pending}
+use Rattle.in_order.proofs.Theorem.{well-placed}
 use Rattle.accepted_sheets.specs.Orderly.{Settled, Orderly, Next}
 use Rattle.accepted_sheets.proofs.SeatedLaws.{put, stays, was, settle-orderly, sit-orderly, empty-orderly}
 
@@ -98,3 +101,68 @@ module _ {p : Problem} {g : Genes} (ok : Accepted p g) where
     one-settled : (b : Board) (a : ℕ) (o : Option ℕ) → seatOrSettle p g a o b .settled ≡ set (b .settled) a 1
     one-settled b a none = refl
     one-settled b a (some m) = refl
+
+    module _ {pending : List ℕ} {b : Board} (s : Sorted pending b) (w : Orderly p (assignedTo g) b) (a : ℕ) (here : a < p .n) (o : Option ℕ) where
+      flags : (q : ℕ) → getD (seatOrSettle p g a o b .settled) q 0 ≡ getD (set (b .settled) a 1) q 0
+      flags q = ap (λ (l : List ℕ). getD l q 0) (one-settled b a o)
+
+      taken : getD (set pending a 0) a 0 ≡ 0
+      taken = getD-set-same pending a 0 0 (omega (arith, s .sized, here, ok .activities .1))
+
+      sorted-again : Sorted (set pending a 0) (seatOrSettle p g a o b)
+      sorted-again =
+          record {
+            sized = length-set pending a 0 ∙ s .sized;
+            left = λ q h f.
+                either a q (λ e. absurd (omega (arith, f, subst (λ (y : ℕ). getD (set pending a 0) y 0 ≡ 0) e taken)))
+                (λ ne.
+                flags q ∙ getD-set-other (b .settled) a q 1 0 (λ e. ne (sym e)) ∙ s .left q h (sym (getD-set-other pending a q 0 0 (λ e. ne (sym e))) ∙ f));
+            gone = λ q h f.
+                flags q
+                ∙ either a q (λ e. subst (λ (y : ℕ). getD (set (b .settled) a 1) y 0 ≡ 1) e (put w a here))
+                (λ ne. stays w a here q (s .gone q h (λ e. f (getD-set-other pending a q 0 0 (λ y. ne (sym y)) ∙ e))));
+          }
+
+    from-orderly : (fuel : ℕ) (pending : List ℕ) (next : Link) (b : Board) → firstReady p pending activities ≡ next → Sorted pending b → Orderly p (assignedTo g) b
+        → Orderly p (assignedTo g) (sitAll p g (readyFrom p activities fuel next pending) b)
+    unfolding readyFrom sitAll
+    from-orderly zero pending next b e s w = w
+    from-orderly (suc fuel) pending Nothing b e s w = w
+    from-orderly (suc fuel) pending (To a) b e s w =
+        let next = ready-next s a e in
+        from-orderly fuel (set pending a 0) (firstReady p (set pending a 0) activities) (seatOrSettle p g a (g .assigned a) b) refl
+        (sorted-again s w a (next .here) (g .assigned a)) (one-orderly w a next (g .assigned a) refl)
+
+    sorted-begin : ((q : ℕ) → q < p .n → 0 < countOf q activities) → Sorted (allPending activities) (emptyBoard (p .n))
+    sorted-begin all =
+        record {
+          sized = marked-length activities 1 (replicate 128 0);
+          left = λ q h f. zeros-at (p .n) q;
+          gone = λ q h f.
+              absurd (f (marked-in activities (replicate 128 0) q (below-more (p .n) 128 activities (ok .activities .1) known) (inl (all q h))));
+        }
+
+  -- ---- everybody is in the order
+
+  those-fewer : (test : ℕ → Bool) (l : List ℕ) (q : ℕ) → countOf q (those test l) ≤ countOf q l
+  unfolding those countOf
+  those-fewer test [] q = omega arith
+  those-fewer test (a ∷ l) q = go (test a) (those-fewer test l q)
+    where
+      go : (t : Bool) → countOf q (those test l) ≤ countOf q l → countOf q (consIf t a (those test l)) ≤ hit a q + countOf q l
+      go true h = omega arith
+      go false h = omega arith
+
+  all-named : length (placeInOrder p g .order) ≡ p .n → (q : ℕ) → q < p .n → 0 < countOf q (indexed p g)
+  all-named full q h =
+      let s = well-placed p g ok in
+      let l = placeInOrder p g .order in
+      let one = sumTo-full (p .n) (λ a. countOf a l) (s .once) (count-all (p .n) l (s .sound .known) ∙ full) q h in
+      let few = those-fewer (λ a. isAssigned (g .assigned a)) (readyOrder p (indexed p g)) q in
+      omega
+      (arith, one, ap (countOf q) (s .rows), few, ready-pending p (indexed p g) (indexed-below ok) (ok .activities .1) q, pending-most (indexed p g) q)
+
+  pub in-order-orderly : length (placeInOrder p g .order) ≡ p .n → Orderly p (assignedTo g) (placeInOrder p g)
+  in-order-orderly full =
+      from-orderly (indexed p g) (indexed-below ok) (length (indexed p g)) (allPending (indexed p g)) (firstReady p (allPending (indexed p g)) (indexed p g)) (emptyBoard (p .n)) refl
+      (sorted-begin (indexed p g) (indexed-below ok) (all-named full)) (empty-orderly p (assignedTo g))
