@@ -32,7 +32,7 @@ use Rattle.in_order.proofs.Theorem.{well-placed}
 use Rattle.accepted_sheets.specs.Orderly.{Settled, Orderly, Next}
 use Rattle.accepted_sheets.proofs.SeatedLaws.{put, stays, was, settle-orderly, sit-orderly, empty-orderly}
 
-or-false : (s t : Bool) → (s || t) ≡ false → (s ≡ false) × (t ≡ false)
+pub or-false : (s t : Bool) → (s || t) ≡ false → (s ≡ false) × (t ≡ false)
 or-false true t e = let z : _≡_ {A = ℕ} 0 1 = cc in absurd (omega arith)
 or-false false t e = (refl, e)
 

@@ -2,3 +2,5 @@ pub mod LineLaws
 pub mod SeatedLaws
 pub mod LawfulLaws
 pub mod InOrderLaws
+pub mod ActiveLaws
+pub mod Theorem
