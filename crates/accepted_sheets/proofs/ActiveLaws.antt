@@ -1,7 +1,7 @@
 -- The candidates of a scan wait for nobody: their predecessors are settled, and so are the steps that the scan passed to come to them.
 use Prim.Native.Nat.{ℕ, zero, suc, _+_, _-_, _≤_, _<_}
 use mathlib.Core.Path.{_≡_, refl, sym, ap, _∙_, subst}
-use mathlib.Core.Bool.{Bool, true, false, not, _&&_, _||_}
+use mathlib.Core.Bool.{Bool, true, false, not}
 use mathlib.Core.List.{List, [], _∷_}
 use native.Mathlib.Omega.{arith}
 use native.Mathlib.Numerals.{add-one}
@@ -15,7 +15,7 @@ use Rattle.plan.specs.Accepted.{Accepted}
 use Rattle.genes.specs.Indexed.{indexed, assignedTo, isAssigned}
 use Rattle.genes.proofs.TaskLaws.{task-within, same-task}
 use Rattle.genes.proofs.MachineLaws.{assigned-known}
-use Rattle.board.specs.Board.{Board, emptyBoard, seat, sit}
+use Rattle.board.specs.Board.{Board, emptyBoard, sit}
 use Rattle.board.specs.declared.Seat.{Seat}
 use Rattle.in_order.proofs.PendingLaws.{and-true}
 use Rattle.active.specs.Active.{ranksOf, Scan, settledIn, anyUnsettled, stopsAt, candidateUnless, stopAt, passOver, scanSteps, scanFrom, scanTasks, scanOf, seatNow, withSettled, scanned, choiceOn, placeFrom, placeActive}

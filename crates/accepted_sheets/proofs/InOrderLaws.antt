@@ -1,20 +1,19 @@
 -- Whoever is taken in order is ready: where everybody is in the order, what it waits for was taken before it, and so is settled.
 use Prim.Native.Nat.{ℕ, zero, suc, _+_, _-_, _≤_, _<_}
 use mathlib.Core.Path.{_≡_, refl, sym, ap, _∙_, subst}
-use mathlib.Core.Bool.{Bool, true, false, not, _&&_, _||_}
+use mathlib.Core.Bool.{Bool, true, false, _||_}
 use mathlib.Core.List.{List, [], _∷_}
-use mathlib.Core.Logic.{_⊎_, inl, inr, ⊎-elim}
+use mathlib.Core.Logic.{inl}
 use mathlib.Core.Option.{Option, none, some, Option·getD}
 use native.Mathlib.Omega.{arith}
-use borrow.Author.Tests.{eq-eqb, eqb-true, not-true}
-use lib.Dec.{eqb}
+use borrow.Author.Tests.{eq-eqb, not-true}
 use lib.ListN.{length, getD, set, replicate, length-set}
 use lib.Seq.{getD-set-same, getD-set-other}
-use Rattle.graph.specs.Counting.{countOf, hit, sumTo, Below}
+use Rattle.graph.specs.Counting.{countOf, hit, Below}
 use Rattle.graph.specs.Filing.{consIf}
 use Rattle.graph.specs.declared.Link.{Link}
 use Rattle.graph.specs.declared.Link.the-variants.{To, Nothing}
-use Rattle.graph.proofs.CountingLaws.{hit-eq, hit-ne, either, below-of, below-more, count-all, sumTo-full}
+use Rattle.graph.proofs.CountingLaws.{hit-ne, either, below-of, below-more, count-all, sumTo-full}
 use Rattle.graph.proofs.NamingLaws.{zeros-at}
 use Rattle.plan.specs.Problem.{Problem, Genes}
 use Rattle.plan.specs.Accepted.{Accepted}
@@ -24,13 +23,13 @@ use Rattle.genes.proofs.TaskLaws.{same-task}
 use Rattle.genes.proofs.MachineLaws.{assigned-known}
 use Rattle.genes.proofs.IndexedLaws.{indexed-below}
 use Rattle.board.specs.Board.{Board, emptyBoard, those, seat, sit}
-use Rattle.in_order.specs.InOrder.{isPending, anyPending, earlierPending, isReady, canCome, firstReady, readyFrom, allPending, readyOrder, seatOrSettle, sitAll, placeInOrder}
+use Rattle.in_order.specs.InOrder.{isPending, anyPending, earlierPending, isReady, firstReady, readyFrom, allPending, readyOrder, seatOrSettle, sitAll, placeInOrder}
 use Rattle.in_order.proofs.PendingLaws.{and-true, marked-in, pending-most}
 use Rattle.in_order.proofs.TakingLaws.{first-is, first-pending}
 use Rattle.in_order.proofs.OrderLaws.{ready-pending}
 use Rattle.in_order.proofs.Theorem.{well-placed}
 use Rattle.accepted_sheets.specs.Orderly.{Settled, Orderly, Next}
-use Rattle.accepted_sheets.proofs.SeatedLaws.{put, stays, was, settle-orderly, sit-orderly, empty-orderly}
+use Rattle.accepted_sheets.proofs.SeatedLaws.{put, stays, settle-orderly, sit-orderly, empty-orderly}
 
 pub or-false : (s t : Bool) → (s || t) ≡ false → (s ≡ false) × (t ≡ false)
 or-false true t e = let z : _≡_ {A = ℕ} 0 1 = cc in absurd (omega arith)

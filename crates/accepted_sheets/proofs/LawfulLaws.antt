@@ -1,10 +1,10 @@
 -- The rows of an orderly board on which everybody is placed are a lawful sheet.
 use Prim.Native.Nat.{ℕ, zero, suc, _+_, _*_, _≤_, _<_}
-use mathlib.Core.Path.{_≡_, refl, sym, ap, _∙_, subst}
+use mathlib.Core.Path.{_≡_, refl, ap, _∙_}
 use mathlib.Core.List.{List, [], _∷_}
 use native.Mathlib.Omega.{arith}
 use lib.ListN.{length, getD}
-use lib.IntN.{ℤ, pos}
+use lib.IntN.{pos}
 use Rattle.graph.specs.Counting.{countOf}
 use Rattle.graph.specs.declared.Link.{Link}
 use Rattle.graph.specs.declared.Link.the-variants.{To, Nothing}
@@ -21,7 +21,7 @@ use Rattle.board.specs.Board.{Board, endOf}
 use Rattle.board.proofs.BoardLaws.{ends-within}
 use Rattle.in_order.proofs.ReadyLaws.{in-list}
 use Rattle.accepted_sheets.specs.SheetRows.{startOf, rowsFrom, rowsOf}
-use Rattle.accepted_sheets.specs.Orderly.{lastBefore, Seated, Orderly}
+use Rattle.accepted_sheets.specs.Orderly.{lastBefore, Orderly}
 use Rattle.accepted_sheets.specs.Complete.{Complete, Passes}
 use Rattle.accepted_sheets.proofs.LineLaws.{last-none, last-is}
 

@@ -1,19 +1,19 @@
 -- Settling and placing keep a board orderly.
 use Prim.Native.Nat.{ℕ, zero, suc, _+_, _-_, _≤_, _<_}
-use mathlib.Core.Path.{_≡_, refl, sym, ap, ap₂, _∙_, subst}
+use mathlib.Core.Path.{_≡_, refl, sym, ap, _∙_, subst}
 use mathlib.Core.Bool.{Bool, true, false}
-use mathlib.Core.List.{List, [], _∷_, _++_}
+use mathlib.Core.List.{List, [], _∷_}
 use native.Mathlib.Omega.{arith}
-use borrow.Author.Tests.{eqb-true, lt-ltb}
+use borrow.Author.Tests.{eqb-true}
 use lib.Dec.{eqb, ltb}
 use lib.ListN.{length, getD, set, replicate, length-append, getD-replicate, List·getD-append}
 use lib.Seq.{getD-set-same, getD-set-other, getD-append-seam}
-use Rattle.graph.specs.Counting.{countOf, hit, Below}
+use Rattle.graph.specs.Counting.{countOf, hit}
 use Rattle.graph.specs.Links.{linked, toIf}
 use Rattle.graph.specs.Shop.{greatest}
 use Rattle.graph.specs.declared.Link.{Link}
-use Rattle.graph.specs.declared.Link.the-variants.{To, Nothing}
-use Rattle.graph.proofs.CountingLaws.{hit-eq, hit-ne, either, countOf-append, below-of}
+use Rattle.graph.specs.declared.Link.the-variants.{To}
+use Rattle.graph.proofs.CountingLaws.{hit-eq, hit-ne, either, countOf-append}
 use Rattle.graph.proofs.NamingLaws.{zeros-at}
 use Rattle.graph.proofs.ShopTheorem.{greatest-first, greatest-each}
 use Rattle.plan.specs.Problem.{Problem, Genes}
@@ -22,8 +22,7 @@ use Rattle.tables.specs.Tabled.{taskPred}
 use Rattle.timing.specs.Placing.{machineBefore, startAfter}
 use Rattle.in_order.proofs.ReadyLaws.{in-list}
 use Rattle.sheet.specs.Lawful.{spanFrom}
-use Rattle.board.specs.Board.{Board, emptyBoard, endOf, lastPlaced, lastOn, lastOf, startOn, seat, settle, sit}
-use Rattle.board.specs.Sound.{Sound}
+use Rattle.board.specs.Board.{Board, emptyBoard, endOf, lastPlaced, lastOn, lastOf, seat, settle, sit}
 use Rattle.board.specs.declared.Seat.{Seat}
 use Rattle.board.proofs.SeatLaws.{last-to, last-none}
 use Rattle.board.proofs.BoardLaws.{empty-sound, settle-sound, seat-is, seat-sound}
