@@ -45,7 +45,7 @@ module _ {p : Problem} {g : Genes} (ok : Accepted p g) where
   on = assignedTo g
 
   -- a task's activities are its own
-  task-at : (t a : ℕ) → t < p .tasks → p .first t ≤ a → a < p .first t + p .steps t → p .taskOf a ≡ t
+  pub task-at : (t a : ℕ) → t < p .tasks → p .first t ≤ a → a < p .first t + p .steps t → p .taskOf a ≡ t
   task-at t a h l k =
       let mine = ok .owned a (omega (arith, k, task-within ok t h)) in
       same-task ok (p .taskOf a) t (a - p .first (p .taskOf a)) (a - p .first t) (omega (arith, mine .0, mine .1)) (omega arith) (omega (arith, mine .0))
@@ -138,7 +138,7 @@ module _ {p : Problem} {g : Genes} (ok : Accepted p g) where
 
   -- ---- whoever is chosen is a candidate
 
-  chosen-orderly : (ranks : List ℕ) {b : Board} → Orderly p on b → (x : Seat) → choiceOn p g ranks b ≡ Sits x → Orderly p on (sit p x (scanned p g b))
+  pub chosen-orderly : (ranks : List ℕ) {b : Board} → Orderly p on b → (x : Seat) → choiceOn p g ranks b ≡ Sits x → Orderly p on (sit p x (scanned p g b))
   chosen-orderly ranks {b} w x e =
       let seen = scan-scanned b w in
       chosen-has (λ (y : Seat). Orderly p on (sit p y (scanned p g b))) ranks (seatNow p g (b .ends) (b .lines) (b .steps)) (scanOf p g (b .settled) .candidates) x e

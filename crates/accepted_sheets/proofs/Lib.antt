@@ -3,4 +3,5 @@ pub mod SeatedLaws
 pub mod LawfulLaws
 pub mod InOrderLaws
 pub mod ActiveLaws
+pub mod WholeLaws
 pub mod Theorem

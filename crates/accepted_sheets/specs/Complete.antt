@@ -1,5 +1,5 @@
--- A sheet that leaves nobody out, by either decoder or the better of the two, is accepted by the sheet check. No plan's circle and no outcome of
--- the search plays a part in it: only what the reader promises of an accepted input.
+-- A sheet that leaves nobody out, by either decoder or the better of the two, is accepted by the sheet check; and nobody is left out where neither
+-- number 4 nor outcome 11 is given.
 use mathlib.Core.Path.{_≡_}
 use lib.ListN.{length}
 use Rattle.plan.specs.Problem.{Problem, Genes}
@@ -22,3 +22,10 @@ pub record CompleteAccepted (p : Problem) (g : Genes) : Type 0 where
   pub in-order : Passes p g (placeInOrder p g)
   pub active : Passes p g (placeActive p g)
   pub shown : Passes p g (betterPlacement p g)
+
+-- where task order and predecessors close no circle, each activity has a machine and the order gives them all
+pub record NobodyLeftOut (p : Problem) (g : Genes) : Type 0 where
+  pub in-order : Complete p (placeInOrder p g)
+  pub active : Complete p (placeActive p g)
+  pub shown : Complete p (betterPlacement p g)
+  pub accepted : checkSheet p (rowsOf g (betterPlacement p g)) ≡ Accepted
