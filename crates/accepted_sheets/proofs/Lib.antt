@@ -5,3 +5,4 @@ pub mod InOrderLaws
 pub mod ActiveLaws
 pub mod WholeLaws
 pub mod Theorem
+pub mod Worked

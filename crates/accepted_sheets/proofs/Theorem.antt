@@ -1,12 +1,17 @@
 -- A complete sheet of either decoder, and of the better of the two, is accepted by the sheet check; and where neither number 4 nor outcome 11 is
 -- given, these sheets are complete.
+use Prim.Native.Nat.{ℕ}
 use mathlib.Core.Path.{_≡_}
 use mathlib.Core.Bool.{Bool, true, false}
+use mathlib.Core.List.{List}
 use lib.Ieee.{lt}
 use Rattle.graph.specs.Arcs.{Circle}
+use Rattle.reader.specs.declared.Reading.{Reading}
 use Rattle.plan.specs.Problem.{Problem, Genes}
 use Rattle.plan.specs.Accepted.{Accepted}
 use Rattle.intake.specs.Circle.{Before}
+use Rattle.intake.specs.Intake.{problemIn, genesIn}
+use Rattle.intake.specs.Sound.{Sound}
 use Rattle.genes.specs.Indexed.{misses}
 use Rattle.board.specs.Board.{Board}
 use Rattle.in_order.specs.InOrder.{placeInOrder}
@@ -52,3 +57,7 @@ module _ (p : Problem) (g : Genes) (ok : Accepted p g) where
         shown = shown-full;
         accepted = complete-accepted .shown shown-full;
       }
+
+-- Of a plan taken in, which has no circle.
+pub taken-in-accepted : {s : List ℕ} {r : Reading} → Sound s r → misses (problemIn s r) (genesIn s r) ≡ false → NobodyLeftOut (problemIn s r) (genesIn s r)
+taken-in-accepted {s} {r} taken none = nobody-left-out (problemIn s r) (genesIn s r) (taken .accepted) (taken .acyclic) none
