@@ -23,7 +23,7 @@ pub record CompleteAccepted (p : Problem) (g : Genes) : Type 0 where
   pub active : Passes p g (placeActive p g)
   pub shown : Passes p g (betterPlacement p g)
 
--- where task order and predecessors close no circle, each activity has a machine and the order gives them all
+-- what holds where task order and predecessors close no circle, each activity has a machine and the order gives them all
 pub record NobodyLeftOut (p : Problem) (g : Genes) : Type 0 where
   pub in-order : Complete p (placeInOrder p g)
   pub active : Complete p (placeActive p g)

@@ -1,5 +1,6 @@
--- What holds of every board that a decoder makes, beside Sound: whoever is placed lasts as long as its place on its machine's line asks, and starts
--- no sooner than its release and the ends of all that it waits for. These waits ended before it was placed, so that no later placing moves them.
+-- What holds of every board of the active decoder, and of those in order if the order gives everybody, beside Sound: whoever is placed lasts as long
+-- as its place on its machine's line asks, and starts no sooner than its release and the ends of all that it waits for. These were settled before it
+-- was placed, so that no later placing moves them.
 use Prim.Native.Nat.{ℕ, zero, suc, _+_, _≤_, _<_}
 use mathlib.Core.Path.{_≡_}
 use mathlib.Core.Bool.{cond}
