@@ -1,2 +1,2 @@
-pub mod RoomLaws
 pub mod LoopLaws
+pub mod CallLaws

@@ -86,17 +86,7 @@ pub fn search_lines(
         pairs = paired;
         let quit = trial::left_after(m, step, left);
         left = quit;
-        let moved = search::make_move(
-            m,
-            cells,
-            lengths,
-            taken,
-            begun,
-            done,
-            order,
-            starts,
-            ends,
-        );
+        let moved = search::make_move(m, cells, lengths, taken, begun, done, order, starts, ends);
         lengths = moved;
         sofar = keep(
             z.activities,

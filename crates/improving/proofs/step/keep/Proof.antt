@@ -1,5 +1,5 @@
 use mathlib.Core.Path.{_≡_, sym}
-use Rattle.improving.proofs.RoomLaws.{lent}
+use Rattle.calls.proofs.PrefixLaws.{lent}
 use borrow.Author.Needs.{needs}
 use Rattle.improving.proofs.step.keep.Statement.{statement}
 use Rattle.improving.proofs.step.keep.Tie as tie
