@@ -1,0 +1,7 @@
+pub mod FloatLaws
+pub mod TaskCount
+pub mod DealtLaws
+pub mod PathLaws
+pub mod TryingLaws
+pub mod SearchLaws
+pub mod Theorem
