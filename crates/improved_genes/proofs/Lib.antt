@@ -4,4 +4,5 @@ pub mod DealtLaws
 pub mod PathLaws
 pub mod TryingLaws
 pub mod SearchLaws
+pub mod EntryLaws
 pub mod Theorem
