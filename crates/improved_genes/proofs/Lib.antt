@@ -5,4 +5,6 @@ pub mod PathLaws
 pub mod TryingLaws
 pub mod SearchLaws
 pub mod EntryLaws
+pub mod TurnLaws
+pub mod LineTurns
 pub mod Theorem

@@ -56,7 +56,7 @@ flat-sum c k (suc len) f h =
     omega (arith, ap (λ (y : ℕ). sumTo y f) e, flat-sum c k len f (λ a l m. h a l (omega (arith, m))), h (k + len) (omega arith) (omega arith))
 
 -- .. in a stretch and nowhere else
-stretch-sum : (k low len : ℕ) (f : ℕ → ℕ) → low + len ≤ k → ((a : ℕ) → low ≤ a → a < low + len → f a ≡ 1) → ((a : ℕ) → a < low → f a ≡ 0)
+pub stretch-sum : (k low len : ℕ) (f : ℕ → ℕ) → low + len ≤ k → ((a : ℕ) → low ≤ a → a < low + len → f a ≡ 1) → ((a : ℕ) → a < low → f a ≡ 0)
     → ((a : ℕ) → low + len ≤ a → a < k → f a ≡ 0) → sumTo k f ≡ len
 unfolding sumTo
 stretch-sum k low len f h inside before behind =
@@ -68,7 +68,7 @@ stretch-sum k low len f h inside before behind =
 -- ---- namings
 
 module _ (p : Problem) (t : ℕ) where
-  abbrev mine : ℕ → Bool
+  abbrev pub mine : ℕ → Bool
   mine a = eqb (p .taskOf a) t
 
   more : (s : Bool) (x y : ℕ) → cond s (x + y) 0 ≡ cond s x 0 + cond s y 0
@@ -83,7 +83,7 @@ module _ (p : Problem) (t : ℕ) where
   unfolding hit
   own a = refl
 
-  tasks-sum : (l : List ℕ) → Below (p .n) l → countOf t (tasksOf p l) ≡ sumTo (p .n) (λ a. cond (mine a) (countOf a l) 0)
+  pub tasks-sum : (l : List ℕ) → Below (p .n) l → countOf t (tasksOf p l) ≡ sumTo (p .n) (λ a. cond (mine a) (countOf a l) 0)
   unfolding tasksOf countOf Below
   tasks-sum [] b = sym (sumTo-ap (p .n) (λ a. cond (mine a) 0 0) (λ a. 0) (λ a h. zeros (mine a)) ∙ sumTo-zero (p .n))
   tasks-sum (x ∷ l) b =
