@@ -7,4 +7,5 @@ pub mod SearchLaws
 pub mod EntryLaws
 pub mod TurnLaws
 pub mod LineTurns
+pub mod SavedLaws
 pub mod Theorem

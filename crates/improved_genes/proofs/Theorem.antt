@@ -1,65 +1,26 @@
--- What Improve answers is never above the fitness that it began with, and the genes that it writes are whole.
+-- What Improve answers is never above the fitness that it began with, and the genes that it writes are whole and have the fitness that it answers.
 use Prim.Native.Nat.{ℕ, _<_}
 use mathlib.Core.Path.{_≡_, refl, sym, ap, _∙_, subst}
 use mathlib.Core.Bool.{Bool, true, false}
 use mathlib.Core.List.{List}
 use mathlib.Core.Logic.{inr}
 use mathlib.Core.Option.{some}
-use native.Mathlib.Omega.{arith}
-use borrow.Author.Tests.{ltb-false}
 use lib.Dec.{eqb}
 use lib.Ieee.{Float}
-use lib.ListN.{length, getD}
-use Rattle.graph.specs.Counting.{countOf}
-use Rattle.graph.proofs.ShopTheorem.{graph}
-use Rattle.graph.proofs.Theorem.{at-most-n, order-once, all-named}
 use Rattle.plan.specs.Problem.{Problem, Genes}
 use Rattle.plan.specs.Accepted.{Accepted}
-use Rattle.intake.proofs.BareShop.{length-each}
-use Rattle.lines.specs.Lines.{Lines, machineOf}
-use Rattle.lines.proofs.LineLaws.{machine-below}
 use Rattle.genes.specs.Indexed.{indexed, assignedTo, misses, linesOfGenes}
 use Rattle.genes.proofs.LinesLaws.{none-missed, genes-well-formed}
-use Rattle.timing.specs.Timing.{timingOrder, countsFor, contradicts}
-use Rattle.timing.proofs.LinesShop.{shop, counted}
+use Rattle.timing.specs.Timing.{timingOrder, contradicts}
+use Rattle.trial.specs.Trial.{lineFitness}
+use Rattle.search.specs.Saving.{tasksOf}
 use Rattle.search.specs.Search.{Saved, unsaved, saved, bestFrom, begun, searched, Improved, noSteps, incomplete, contradictory, nothingBetter, improved, answer, twelveIf, elevenIf, tenIf, improve}
-use Rattle.improved_genes.specs.Written.{firstFitness, Able, WholeGenes, Better, Improves}
-use Rattle.improved_genes.proofs.TaskCount.{tasks-length, as-often}
-use Rattle.improved_genes.proofs.PathLaws.{each-is, order-known}
+use Rattle.improved_genes.specs.Written.{firstFitness, Better, Improves}
 use Rattle.improved_genes.proofs.DealtLaws.{lines-many, dealt-machine, assigned-some, assigned-each}
 use Rattle.improved_genes.proofs.SearchLaws.{Sound, Reached, Progress, Going, steps-going}
+use Rattle.improved_genes.proofs.SavedLaws.{saved-whole, saved-accepted, saved-complete, lines-again}
 
 module _ (p : Problem) (g : Genes) (ok : Accepted p g) where
-  module _ {lines : Lines} (s : Sound p g lines) where
-    abbrev order : List ℕ
-    order = timingOrder p lines
-
-    pub order-full : length order ≡ p .n
-    order-full =
-        omega
-        (arith, at-most-n (graph (shop p g ok lines (s .well))) (countsFor p lines) (counted p g ok lines (s .well)), ltb-false (length order) (p .n) (s .possible))
-
-    pub each-once : (a : ℕ) → a < p .n → countOf a order ≡ 1
-    each-once a h =
-        let c = counted p g ok lines (s .well) in
-        let x = graph (shop p g ok lines (s .well)) in
-        omega (arith, order-once x (countsFor p lines) c a h, all-named x (countsFor p lines) c order-full a h)
-
-  -- ---- the genes that are saved
-
-  reached-whole : (start best : Float) (tasks machines : List ℕ) → Reached p g start best tasks machines → WholeGenes p g tasks machines
-  reached-whole start best tasks machines r =
-      let s = r .sound in
-      let order = timingOrder p (r .lines) in
-      let on : (a : ℕ) → a < p .n → getD machines a 0 ≡ machineOf (r .lines) a = λ a h. ap (λ (l : List ℕ). getD l a 0) (r .seated) ∙ each-is (machineOf (r .lines)) (p .n) a h in
-      record {
-        all-named = ap length (r .ordered) ∙ tasks-length p order ∙ order-full s;
-        as-often = λ t h. ap (countOf t) (r .ordered) ∙ as-often ok order (order-known p g ok (r .lines) (s .sixteen) (s .well)) (each-once s) t h;
-        all-seated = ap length (r .seated) ∙ length-each (machineOf (r .lines)) (p .n) 0;
-        known = λ a h. omega (arith, on a h, machine-below (s .well) a h);
-        able = λ a h. subst (Able p g a) (sym (on a h)) (s .able a h);
-      }
-
   -- ---- at first
 
   first-sound : misses p g ≡ false → contradicts p (linesOfGenes p g) ≡ false → Sound p g (linesOfGenes p g)
@@ -75,6 +36,22 @@ module _ (p : Problem) (g : Genes) (ok : Accepted p g) where
             ∙ ap some (dealt-machine (assignedTo g) (indexed p g) w (ok .machines .1) a h));
       }
 
+  -- ---- what is saved
+
+  reached-better : (best : Float) (tasks machines : List ℕ) → Reached p g (firstFitness p g) best tasks machines → Better p g best tasks machines
+  reached-better best tasks machines r =
+      let s = r .sound in
+      subst (λ (l : List ℕ). Better p g best l machines) (sym (r .ordered))
+      (subst (λ (l : List ℕ). Better p g best (tasksOf p (timingOrder p (r .lines))) l) (sym (r .seated))
+      (record {
+        lower = r .lower;
+        whole = saved-whole p g ok s;
+        accepted = saved-accepted p g ok s;
+        complete = saved-complete p g ok s;
+        possible = ap (contradicts p) (lines-again p g ok s) ∙ s .possible;
+        exact = ap (lineFitness p) (lines-again p g ok s) ∙ sym (r .value);
+      }))
+
   -- ---- at the end
 
   abbrev Answered : Improved → Type 0
@@ -86,7 +63,7 @@ module _ (p : Problem) (g : Genes) (ok : Accepted p g) where
 
   answer-is : (found : Saved) (best : Float) → Progress p g (firstFitness p g) best found → Answered (answer found best)
   answer-is unsaved best e = e
-  answer-is (saved tasks machines) best r = record { lower = r .lower; whole = reached-whole (firstFitness p g) best tasks machines r }
+  answer-is (saved tasks machines) best r = reached-better best tasks machines r
 
   twelve-is : (t : Bool) → contradicts p (linesOfGenes p g) ≡ t → misses p g ≡ false → Answered (twelveIf t p (linesOfGenes p g))
   twelve-is true e whole = tt

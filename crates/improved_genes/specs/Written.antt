@@ -1,15 +1,18 @@
 -- Document 01, outcomes 13 and 14: what Improve's answer says of the genes that it was given, and of those that it writes.
 use Prim.Native.Nat.{ℕ, _<_}
 use mathlib.Core.Path.{_≡_}
-use mathlib.Core.Bool.{true}
+use mathlib.Core.Bool.{true, false, cond}
 use mathlib.Core.List.{List}
 use mathlib.Core.Logic.{_⊎_}
-use mathlib.Core.Option.{some}
+use mathlib.Core.Option.{none, some}
+use lib.Dec.{ltb}
 use lib.Ieee.{Float, lt}
 use lib.ListN.{length, getD}
 use Rattle.graph.specs.Counting.{countOf}
 use Rattle.plan.specs.Problem.{Problem, Genes}
-use Rattle.genes.specs.Indexed.{linesOfGenes}
+use Rattle.plan.specs.Accepted.{Accepted}
+use Rattle.genes.specs.Indexed.{misses, linesOfGenes}
+use Rattle.timing.specs.Timing.{contradicts}
 use Rattle.trial.specs.Trial.{lineFitness}
 use Rattle.search.specs.Search.{nothingBetter, improved, improve}
 
@@ -29,10 +32,19 @@ pub record WholeGenes (p : Problem) (g : Genes) (tasks machines : List ℕ) : Ty
   pub known : (a : ℕ) → a < p .n → getD machines a 0 < p .machines
   pub able : (a : ℕ) → a < p .n → Able p g a (getD machines a 0)
 
--- what is so of a fitness and of genes that are written
+-- the genes that the two lists hold
+abbrev pub genesWritten : (tasks machines : List ℕ) → Genes
+genesWritten tasks machines =
+    record { order = tasks; assigned = λ a. cond (ltb a (length machines)) (some (getD machines a 0)) none }
+
+-- what is so of a fitness and of the genes written with it: they can stand in the plan, and timed as they stand they have that fitness
 pub record Better (p : Problem) (g : Genes) (f : Float) (tasks machines : List ℕ) : Type 0 where
   pub lower : lt f (firstFitness p g) ≡ true
   pub whole : WholeGenes p g tasks machines
+  pub accepted : Accepted p (genesWritten tasks machines)
+  pub complete : misses p (genesWritten tasks machines) ≡ false
+  pub possible : contradicts p (linesOfGenes p (genesWritten tasks machines)) ≡ false
+  pub exact : firstFitness p (genesWritten tasks machines) ≡ f
 
 -- at 13 nothing was found below the fitness that the search began with; at 14 something was
 pub record Improves (p : Problem) (g : Genes) : Type 0 where
