@@ -1,6 +1,6 @@
 -- Six taboo places never lose a live entry of the search: after any number of steps it has come to where it would be had every entry been kept.
 -- Assumes nothing.
-use Prim.Native.Nat.{ℕ, zero, suc, _≤_}
+use Prim.Native.Nat.{ℕ, zero, suc}
 use mathlib.Core.Path.{_≡_, refl, sym, ap, ap₂, _∙_, subst}
 use mathlib.Core.Bool.{Bool}
 use mathlib.Core.List.{List, [], _∷_}
@@ -13,7 +13,7 @@ use Rattle.lines.specs.Lines.{Lines}
 use Rattle.moves.specs.Moves.{applied}
 use Rattle.moves.specs.declared.Move.{Move}
 use Rattle.moves.specs.declared.Pairing.{Pairing}
-use Rattle.trial.specs.Taboo.{fresh, forbidden, pairsAfter, leftAfter}
+use Rattle.trial.specs.Taboo.{forbidden, pairsAfter, leftAfter}
 use Rattle.trial.specs.History.{pairMade, leftMade, entriesWith, sixPlaces, allEntries}
 use Rattle.trial.specs.Trial.{tried, triedAll}
 use Rattle.trial.specs.declared.Taboo.{Taboo}

@@ -8,4 +8,8 @@ pub mod EntryLaws
 pub mod TurnLaws
 pub mod LineTurns
 pub mod SavedLaws
+pub mod RankLaws
+pub mod NextLaws
+pub mod ReassignLaws
+pub mod ReassignTheorem
 pub mod Theorem

@@ -2,7 +2,7 @@
 use Prim.Native.Nat.{ℕ, zero, suc, _+_, _-_, _≤_, _<_}
 use mathlib.Core.Path.{_≡_, refl, sym, ap, ap₂, _∙_, subst}
 use mathlib.Core.Bool.{Bool, true, false}
-use mathlib.Core.List.{List, [], _∷_, _++_}
+use mathlib.Core.List.{List, [], _∷_}
 use native.Mathlib.Omega.{arith}
 use borrow.Author.Tests.{lt-ltb, le-ltb, eq-eqb, ne-eqb}
 use lib.Dec.{eqb}
@@ -15,7 +15,7 @@ use Rattle.graph.specs.Order.{InTurn}
 use Rattle.graph.proofs.CountingLaws.{either, hit-eq, hit-ne, countOf-append}
 use Rattle.lines.specs.Lines.{Lines, rest, befores, linePred, holder, standing, machineOf, positionOf, WellFormed}
 use Rattle.lines.specs.Dealing.{linesOf, onMachine}
-use Rattle.lines.proofs.LineLaws.{at-most-once, machine-below, preds-one, stands-at}
+use Rattle.lines.proofs.LineLaws.{at-most-once, preds-one, stands-at}
 use Rattle.lines.proofs.DealLaws.{line-of}
 use Rattle.moves.specs.Moves.{lineOf}
 use Rattle.moves.proofs.StandingLaws.{count-standing}
@@ -136,7 +136,10 @@ module _ {n M : ℕ} {lines : Lines} (w : WellFormed n M lines) (sixteen : lengt
       let b = getD (lineOf lines m) i 0 in
       omega (arith, next-names (lineOf lines m) i h, line-befores lines m a b, ap (countOf b) (preds-one w a))
 
-  on-own : (m i : ℕ) → i < length (lineOf lines m) → machineOf lines (getD (lineOf lines m) i 0) ≡ m
+  pub stands-there : (m i : ℕ) → i < length (lineOf lines m) → 0 < standing lines (getD (lineOf lines m) i 0)
+  stands-there m i h = omega (arith, count-at (lineOf lines m) i h, count-standing lines m (getD (lineOf lines m) i 0))
+
+  pub on-own : (m i : ℕ) → i < length (lineOf lines m) → machineOf lines (getD (lineOf lines m) i 0) ≡ m
   on-own m i h =
       let b = getD (lineOf lines m) i 0 in
       omega (arith, holder-at lines 0 m b (at-most-once w b) (count-at (lineOf lines m) i h))
@@ -159,7 +162,7 @@ module _ {n M : ℕ} {lines : Lines} (w : WellFormed n M lines) (sixteen : lengt
       ext-getD [] (linesOf (machineOf lines) order) lines (lines-many (machineOf lines) order ∙ sym sixteen)
       (λ m h.
       let l = lineOf lines m in
-      let known : (i : ℕ) → i < length l → getD l i 0 < n = λ i k. w .known (getD l i 0) (omega (arith, count-at l i k, count-standing lines m (getD l i 0))) in
+      let known : (i : ℕ) → i < length l → getD l i 0 < n = λ i k. w .known (getD l i 0) (stands-there m i k) in
       line-of (machineOf lines) order m (omega (arith, h, lines-many (machineOf lines) order))
       ∙ line-back n R (machineOf lines) m l (λ i k. arc (getD l i 0) (getD l (suc i) 0) (known (suc i) k) (neighbour m i k)) (on-own m) (place-of m) (apart-on m) [] order 0
       (record { within = omega arith; done = λ i k. absurd (omega arith); left = λ i k j. refl }) turns

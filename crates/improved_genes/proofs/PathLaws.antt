@@ -17,7 +17,7 @@ use Rattle.plan.specs.Accepted.{Accepted}
 use Rattle.bounds.proofs.ArrivalLaws.{link-names}
 use Rattle.intake.specs.Circle.{each}
 use Rattle.intake.proofs.BareShop.{each-at, length-each}
-use Rattle.lines.specs.Lines.{Lines, linePred, machineOf, positionOf, WellFormed}
+use Rattle.lines.specs.Lines.{Lines, machineOf, positionOf, WellFormed}
 use Rattle.lines.specs.Linking.{AllBelow}
 use Rattle.lines.proofs.LineLaws.{lines-below, machine-below, stands-at, pred-below}
 use Rattle.moves.specs.Moves.{Fits, Within}
@@ -40,7 +40,7 @@ use Rattle.blocks.proofs.EveryLaws.{Every, none, also, every-append}
 use Rattle.blocks.proofs.FitLaws.{Inline, moves-fit, kept-fit}
 use Rattle.reassign.proofs.ReassignedLaws.{Reassigns, best-reassign, reassigns-fit, reassigns-within}
 use Rattle.trial.specs.Trial.{movesOf}
-use Rattle.search.specs.Step.{placingOf, blocksBy, othersBy, movesFrom}
+use Rattle.search.specs.Step.{placingOf, othersBy, movesFrom}
 
 -- ---- the path
 
@@ -118,7 +118,7 @@ module _ (p : Problem) (g : Genes) (ok : Accepted p g) (lines : Lines) (sixteen 
       })
       (others-offered path known l (h .1))
 
-  arc-known : (q a : ℕ) → Binds p lines q a → q < p .n
+  pub arc-known : (q a : ℕ) → Binds p lines q a → q < p .n
   arc-known q a (line h e) = link-names (p .n) q e (pred-below w a)
   arc-known q a (task h e) = omega (arith, h, pred-lower p a q e)
   arc-known q a (name h k) = below-of (p .n) q (p .predecessors a) (ok .predecessors a) k
@@ -127,10 +127,10 @@ module _ (p : Problem) (g : Genes) (ok : Accepted p g) (lines : Lines) (sixteen 
   order-known = order-below (graph (shop p g ok lines w)) (countsFor p lines) (counted p g ok lines w)
 
   module _ (possible : contradicts p lines ≡ false) where
-    abbrev path : List ℕ
+    abbrev pub path : List ℕ
     path = criticalPath p lines (placingOf p lines)
 
-    path-walked : Below (p .n) path × ((b : ℕ) → countOf b path ≤ 1)
+    pub path-walked : Below (p .n) path × ((b : ℕ) → countOf b path ≤ 1)
     unfolding Below countOf
     path-walked =
         let falling = timing-falls p g ok lines w possible (startsOf p lines) (endsOf p lines) in

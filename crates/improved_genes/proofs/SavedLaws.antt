@@ -1,19 +1,17 @@
 -- The genes that are saved from sound lines: they are whole, and they give these lines back.
-use Prim.Native.Nat.{ℕ, zero, suc, _+_, _≤_, _<_}
+use Prim.Native.Nat.{ℕ, zero, suc, _+_, _<_}
 use mathlib.Core.Path.{_≡_, refl, sym, ap, _∙_, subst}
-use mathlib.Core.Bool.{Bool, true, false, _&&_, cond}
+use mathlib.Core.Bool.{Bool, true, false, cond}
 use mathlib.Core.List.{List, [], _++_}
 use mathlib.Core.Option.{Option, none, some, Option·getD}
 use native.Mathlib.Omega.{arith}
 use borrow.Author.Tests.{lt-ltb, ltb-true, ltb-false, eq-eqb}
 use lib.Dec.{ltb}
-use lib.Ieee.{Float}
 use lib.ListN.{length, getD}
 use Rattle.graph.specs.Counting.{countOf}
 use Rattle.graph.specs.Arcs.{Graph, Waits}
 use Rattle.graph.specs.Links.{toIf, linked}
 use Rattle.graph.specs.Order.{InTurn}
-use Rattle.graph.specs.declared.Link.{Link}
 use Rattle.graph.proofs.CountingLaws.{hit-eq, countOf-append}
 use Rattle.graph.proofs.ShopTheorem.{graph}
 use Rattle.graph.proofs.Theorem.{at-most-n, order-in-turn, order-once, all-named}
@@ -25,11 +23,10 @@ use Rattle.intake.proofs.BareShop.{length-each}
 use Rattle.lines.specs.Lines.{Lines, linePred, machineOf}
 use Rattle.lines.specs.Dealing.{linesOf}
 use Rattle.lines.proofs.LineLaws.{machine-below}
-use Rattle.genes.specs.Indexed.{indexed, assignedTo, isAssigned, assignedBelow, allAssigned, misses, linesOfGenes}
+use Rattle.genes.specs.Indexed.{indexed, assignedTo, isAssigned, assignedBelow, misses, linesOfGenes}
 use Rattle.genes.proofs.LinesLaws.{misses-nothing, lines-same}
-use Rattle.timing.specs.Timing.{timingOrder, countsFor, contradicts}
+use Rattle.timing.specs.Timing.{timingOrder, countsFor}
 use Rattle.timing.proofs.LinesShop.{shop, counted}
-use Rattle.trial.specs.Trial.{lineFitness}
 use Rattle.search.specs.Saving.{tasksOf}
 use Rattle.improved_genes.specs.Written.{Able, WholeGenes, genesWritten}
 use Rattle.improved_genes.proofs.TaskCount.{tasks-length, as-often}

@@ -1,13 +1,11 @@
 -- What is so of the lines, the best fitness and the genes saved after each step of the search.
-use Prim.Native.Nat.{ℕ, zero, suc, _≤_, _<_}
-use mathlib.Core.Path.{_≡_, refl, sym, ap, _∙_, subst}
+use Prim.Native.Nat.{ℕ, zero, suc, _<_}
+use mathlib.Core.Path.{_≡_, refl, sym, _∙_, subst}
 use mathlib.Core.Bool.{Bool, true, false}
-use mathlib.Core.List.{List, [], _∷_}
-use mathlib.Core.Logic.{_⊎_, inl, inr}
-use native.Mathlib.Omega.{arith}
+use mathlib.Core.List.{List}
+use mathlib.Core.Logic.{inl}
 use lib.Ieee.{Float, lt}
 use lib.ListN.{length}
-use Rattle.graph.specs.Counting.{countOf}
 use Rattle.graph.proofs.CountingLaws.{either}
 use Rattle.plan.specs.Problem.{Problem, Genes}
 use Rattle.plan.specs.Accepted.{Accepted}
@@ -25,7 +23,6 @@ use Rattle.trial.specs.Trial.{lineFitness}
 use Rattle.trial.specs.declared.Best.{Best}
 use Rattle.trial.specs.declared.Best.the-variants.{Nothing, Found}
 use Rattle.search.specs.Saving.{tasksOf}
-use Rattle.search.specs.Step.{movesFrom}
 use Rattle.search.specs.Search.{Saved, unsaved, saved, State, bestFrom, genesOn, savedIf, lesserIf, made, stepsFrom}
 use Rattle.improved_genes.specs.Written.{Able}
 use Rattle.improved_genes.proofs.FloatLaws.{lt-on}

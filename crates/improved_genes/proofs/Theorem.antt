@@ -1,5 +1,6 @@
 -- What Improve answers is never above the fitness that it began with, and the genes that it writes are whole and have the fitness that it answers.
-use Prim.Native.Nat.{ℕ, _<_}
+-- No reassignment of any step contradicts.
+use Prim.Native.Nat.{ℕ}
 use mathlib.Core.Path.{_≡_, refl, sym, ap, _∙_, subst}
 use mathlib.Core.Bool.{Bool, true, false}
 use mathlib.Core.List.{List}
@@ -14,10 +15,12 @@ use Rattle.genes.proofs.LinesLaws.{none-missed, genes-well-formed}
 use Rattle.timing.specs.Timing.{timingOrder, contradicts}
 use Rattle.trial.specs.Trial.{lineFitness}
 use Rattle.search.specs.Saving.{tasksOf}
-use Rattle.search.specs.Search.{Saved, unsaved, saved, bestFrom, begun, searched, Improved, noSteps, incomplete, contradictory, nothingBetter, improved, answer, twelveIf, elevenIf, tenIf, improve}
+use Rattle.search.specs.Search.{Saved, unsaved, saved, bestFrom, begun, searchedTo, searched, Improved, noSteps, incomplete, contradictory, nothingBetter, improved, answer, twelveIf, elevenIf, tenIf, improve}
+use Rattle.improved_genes.specs.Reassigned.{NeverContradict}
 use Rattle.improved_genes.specs.Written.{firstFitness, Better, Improves}
 use Rattle.improved_genes.proofs.DealtLaws.{lines-many, dealt-machine, assigned-some, assigned-each}
 use Rattle.improved_genes.proofs.SearchLaws.{Sound, Reached, Progress, Going, steps-going}
+use Rattle.improved_genes.proofs.ReassignTheorem.{never-contradict}
 use Rattle.improved_genes.proofs.SavedLaws.{saved-whole, saved-accepted, saved-complete, lines-again}
 
 module _ (p : Problem) (g : Genes) (ok : Accepted p g) where
@@ -52,6 +55,19 @@ module _ (p : Problem) (g : Genes) (ok : Accepted p g) where
         exact = ap (lineFitness p) (lines-again p g ok s) ∙ sym (r .value);
       }))
 
+  -- ---- after any number of steps
+
+  after-going : misses p g ≡ false → contradicts p (linesOfGenes p g) ≡ false → (k : ℕ) → Going p g (firstFitness p g) (searchedTo p k (linesOfGenes p g))
+  after-going whole e k =
+      let lines = linesOfGenes p g in
+      steps-going p g (firstFitness p g) ok k 0 (bestFrom p 0 (begun p lines)) (begun p lines) refl (record { sound = first-sound whole e; progress = refl })
+
+  -- no reassignment of the next step contradicts
+  pub reassignments-possible : misses p g ≡ false → contradicts p (linesOfGenes p g) ≡ false → (k : ℕ) → NeverContradict p (searchedTo p k (linesOfGenes p g) .lines)
+  reassignments-possible whole e k =
+      let s = after-going whole e k .sound in
+      never-contradict p g ok (searchedTo p k (linesOfGenes p g) .lines) (s .sixteen) (s .well) (s .possible)
+
   -- ---- at the end
 
   abbrev Answered : Improved → Type 0
@@ -67,12 +83,7 @@ module _ (p : Problem) (g : Genes) (ok : Accepted p g) where
 
   twelve-is : (t : Bool) → contradicts p (linesOfGenes p g) ≡ t → misses p g ≡ false → Answered (twelveIf t p (linesOfGenes p g))
   twelve-is true e whole = tt
-  twelve-is false e whole =
-      let lines = linesOfGenes p g in
-      let st = searched p lines in
-      let k : Going p g (firstFitness p g) st =
-      steps-going p g (firstFitness p g) ok (p .limit) 0 (bestFrom p 0 (begun p lines)) (begun p lines) refl (record { sound = first-sound whole e; progress = refl }) in
-      answer-is (st .found) (st .best) (k .progress)
+  twelve-is false e whole = let st = searched p (linesOfGenes p g) in answer-is (st .found) (st .best) (after-going whole e (p .limit) .progress)
 
   eleven-is : (t : Bool) → misses p g ≡ t → Answered (elevenIf t p g)
   eleven-is true e = tt

@@ -1,7 +1,7 @@
 -- The move that counts is one of those tried; its lines do not contradict, and its fitness is theirs. Assumes nothing.
 use mathlib.Core.Path.{_≡_, refl}
 use mathlib.Core.Bool.{Bool, true, false, not, _||_}
-use mathlib.Core.List.{List, [], _∷_}
+use mathlib.Core.List.{List}
 use lib.Ieee.{Float, lt}
 use Rattle.plan.specs.Problem.{Problem}
 use Rattle.lines.specs.Lines.{Lines}

@@ -2,7 +2,7 @@
 -- lists of six places each.
 use Prim.Native.Nat.{ℕ, zero, suc}
 use mathlib.Core.Path.{_≡_}
-use mathlib.Core.List.{List, []}
+use mathlib.Core.List.{[]}
 use lib.Ieee.{Float, lt}
 use Rattle.plan.specs.Problem.{Problem}
 use Rattle.lines.specs.Lines.{Lines}
