@@ -1,5 +1,4 @@
--- The search with every entry kept: its lists lose nothing, however many steps there are. Else it is the search of document 01, to compare with the
--- lists of six places each.
+-- The search of document 01 with every entry kept, so that its lists can lose none: what the search with six places in each list is compared with.
 use Prim.Native.Nat.{ℕ, zero, suc}
 use mathlib.Core.Path.{_≡_}
 use mathlib.Core.List.{[]}
@@ -14,7 +13,7 @@ use Rattle.trial.specs.declared.Best.{Best}
 use Rattle.trial.specs.declared.Best.the-variants.{Nothing, Found}
 use Rattle.search.specs.Search.{State, unsaved, genesOn, savedIf, lesserIf, bestFrom}
 
--- the state once a move is made, with one entry more
+-- the state once a move is made, with one entry more in its list
 abbrev pub madeKeeping : Problem → (step : ℕ) → State → Float → Move → State
 madeKeeping p step st f m =
     record {
