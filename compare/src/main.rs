@@ -19,7 +19,7 @@ const USAGES: [&str; 12] = [
     "damage SEED [INPUT]",
     "classes",
     "check [N]",
-    "intake-check PROGRAM [N]",
+    "intake-check [N] PROGRAM...",
     "time-check [N]",
     "time-bench [--only SIDE PLAN TIMES]",
     "store [FOLDER]",
@@ -96,10 +96,10 @@ fn dispatch(arguments: &[OsString]) -> Result<Said, String> {
         ["classes"] => Ok(Class::ALL.map(|class| format!("{}\n", class.name())).concat().into()),
         ["check"] => Ok(check::check(INPUTS)?.into()),
         ["check", inputs] => Ok(check::check(number(inputs, "a number of inputs")?)?.into()),
-        ["intake-check", _] => Ok(intake::check(file(1).as_ref(), INTAKES)?.into()),
-        ["intake-check", _, inputs] => {
-            Ok(intake::check(file(1).as_ref(), number(inputs, "a number of inputs")?)?.into())
+        ["intake-check", inputs, _, ..] if is_number(inputs) => {
+            Ok(intake::check(&arguments[2..], number(inputs, "a number of inputs")?)?.into())
         }
+        ["intake-check", program, ..] if !is_number(program) => Ok(intake::check(&arguments[1..], INTAKES)?.into()),
         ["time-check"] => Ok(time_check::check(TIMINGS)?.into()),
         ["time-check", inputs] => Ok(time_check::check(number(inputs, "a number of inputs")?)?.into()),
         ["time-bench"] => Ok(time_bench::bench()?.into()),
@@ -199,10 +199,13 @@ fn shown(file: &OsStr) -> String {
     }
 }
 
+fn is_number(word: &str) -> bool {
+    !word.is_empty() && word.bytes().all(|byte| byte.is_ascii_digit())
+}
+
 fn number(word: &str, what: &str) -> Result<u64, String> {
-    let digits = !word.is_empty() && word.bytes().all(|byte| byte.is_ascii_digit());
     match word.parse() {
-        Ok(number) if digits => Ok(number),
+        Ok(number) if is_number(word) => Ok(number),
         _ => Err(format!("{what} is a whole number from 0 to {}, not '{}'", u64::MAX, word.escape_debug())),
     }
 }

@@ -42,7 +42,7 @@ fn said<S: AsRef<OsStr> + std::fmt::Debug>(arguments: &[S], input: &[u8]) -> Str
 #[test]
 fn bad_arguments_are_one_line_and_2() {
     let here = env!("CARGO_MANIFEST_DIR");
-    let bad: [&[&str]; 51] = [
+    let bad: [&[&str]; 55] = [
         &[],
         &["no-such-mode"],
         &[""],
@@ -84,6 +84,10 @@ fn bad_arguments_are_one_line_and_2() {
         &["classes", "1"],
         &["check", "x"],
         &["check", "1", "2"],
+        &["intake-check"],
+        &["intake-check", "1"],
+        &["intake-check", "no/such/program"],
+        &["intake-check", "1", "no/such/program", "argument"],
         &["time-check", "x"],
         &["time-check", "1", "2"],
         &["time-bench", "x"],
