@@ -787,6 +787,11 @@ fn steps(makings: &Makings, rng: &mut Rng) -> u32 {
 
 // ----------------------------------------------------------------------------------------- two extreme plans
 
+/// Both, by name.
+pub fn extremes() -> [(&'static str, Plan); 2] {
+    [("the longest input", longest_input()), ("the latest end", latest_end())]
+}
+
 /// The longest input there is: every section is full, 65,204 bytes in all.
 pub fn longest_input() -> Plan {
     let (tasks, activities, machines) = (32, 128, 16);

@@ -8,10 +8,10 @@ use std::process::ExitCode;
 use compare::generate::{self, Class};
 use compare::modes::{answer, Mode};
 use compare::time_bench::{self, Side};
-use compare::{check, damage, intake, lines, store, text, time_check};
+use compare::{check, damage, decode_check, intake, lines, store, text, time_check};
 
 /// Every way to call the tools; the first one stands for all modes.
-const USAGES: [&str; 12] = [
+const USAGES: [&str; 13] = [
     "MODE [INPUT [LINES]]",
     "to-text [INPUT]",
     "from-text [TEXT]",
@@ -21,6 +21,7 @@ const USAGES: [&str; 12] = [
     "check [N]",
     "intake-check [N] PROGRAM...",
     "time-check [N]",
+    "decode-check [N]",
     "time-bench [--only SIDE PLAN TIMES]",
     "store [FOLDER]",
     "answers-check [FOLDER]",
@@ -35,8 +36,8 @@ const INPUTS: u64 = 10_000;
 /// How many inputs `intake-check` runs unless it is told.
 const INTAKES: u64 = 100_000;
 
-/// How many inputs `time-check` runs unless it is told.
-const TIMINGS: u64 = 20_000;
+/// How many inputs `time-check` and `decode-check` run unless they are told.
+const LIBRARY_INPUTS: u64 = 20_000;
 
 /// What goes to standard output, and whether a check found a difference.
 struct Said {
@@ -100,8 +101,10 @@ fn dispatch(arguments: &[OsString]) -> Result<Said, String> {
             Ok(intake::check(&arguments[2..], number(inputs, "a number of inputs")?)?.into())
         }
         ["intake-check", program, ..] if !is_number(program) => Ok(intake::check(&arguments[1..], INTAKES)?.into()),
-        ["time-check"] => Ok(time_check::check(TIMINGS)?.into()),
+        ["time-check"] => Ok(time_check::check(LIBRARY_INPUTS)?.into()),
         ["time-check", inputs] => Ok(time_check::check(number(inputs, "a number of inputs")?)?.into()),
+        ["decode-check"] => Ok(decode_check::check(LIBRARY_INPUTS)?.into()),
+        ["decode-check", inputs] => Ok(decode_check::check(number(inputs, "a number of inputs")?)?.into()),
         ["time-bench"] => Ok(time_bench::bench()?.into()),
         ["time-bench", "--only", side, plan, times] => {
             let times = number(times, "a number of timings")?;

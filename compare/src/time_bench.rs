@@ -7,9 +7,12 @@ use std::time::Instant;
 
 use crate::generate::{self, Class};
 use crate::plan::Plan;
-use crate::proved::{Given, Library, CELLS, MACHINES, STRETCH};
+use crate::proved::{Calls, Given, Library, CELLS, MACHINES, STRETCH};
 use crate::published::{Lines, Published};
 use crate::timing;
+
+/// The call that it measures.
+const CALLS: [&str; 1] = ["lavkkesto_time_again"];
 
 /// How often each side is measured, after one time that does not count.
 const REPEATS: usize = 21;
@@ -89,7 +92,7 @@ impl Timed {
                 let end = self.published.time_again(&self.lines, times);
                 end.map(|end| end as u64).ok_or_else(|| "the lines contradict".to_string())
             }
-            Side::Proved => Ok(Library::linked()?.time_again(&self.bytes, &self.given, times)),
+            Side::Proved => Ok(Library::linked(&CALLS)?.time_again(&self.bytes, &self.given, times)),
         }
     }
 
@@ -123,7 +126,7 @@ impl Timed {
 
 /// Both sides on every plan.
 pub fn bench() -> Result<String, String> {
-    Library::linked()?;
+    Library::linked(&CALLS)?;
     let mut text = format!(
         "{:<10}{:>34}{:>34}{:>9}\n",
         "plan", "Rust, ns (least to greatest)", "proved, ns (least to greatest)", "ratio"
