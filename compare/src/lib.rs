@@ -24,6 +24,7 @@ pub mod proved;
 pub mod published;
 pub mod read;
 pub mod sheet;
+pub mod sheet_check;
 pub mod spread;
 pub mod store;
 pub mod tally;

@@ -8,10 +8,10 @@ use std::process::ExitCode;
 use compare::generate::{self, Class};
 use compare::modes::{answer, Mode};
 use compare::time_bench::{self, Side};
-use compare::{check, damage, decode_check, intake, lines, store, text, time_check};
+use compare::{check, damage, decode_check, intake, lines, sheet_check, store, text, time_check};
 
 /// Every way to call the tools; the first one stands for all modes.
-const USAGES: [&str; 13] = [
+const USAGES: [&str; 14] = [
     "MODE [INPUT [LINES]]",
     "to-text [INPUT]",
     "from-text [TEXT]",
@@ -22,6 +22,7 @@ const USAGES: [&str; 13] = [
     "intake-check [N] PROGRAM...",
     "time-check [N]",
     "decode-check [N]",
+    "sheet-check [N]",
     "time-bench [--only SIDE PLAN TIMES]",
     "store [FOLDER]",
     "answers-check [FOLDER]",
@@ -38,6 +39,9 @@ const INTAKES: u64 = 100_000;
 
 /// How many inputs `time-check` and `decode-check` run unless they are told.
 const LIBRARY_INPUTS: u64 = 20_000;
+
+/// How many sheets `sheet-check` runs unless it is told.
+const SHEETS: u64 = 50_000;
 
 /// What goes to standard output, and whether a check found a difference.
 struct Said {
@@ -105,6 +109,8 @@ fn dispatch(arguments: &[OsString]) -> Result<Said, String> {
         ["time-check", inputs] => Ok(time_check::check(number(inputs, "a number of inputs")?)?.into()),
         ["decode-check"] => Ok(decode_check::check(LIBRARY_INPUTS)?.into()),
         ["decode-check", inputs] => Ok(decode_check::check(number(inputs, "a number of inputs")?)?.into()),
+        ["sheet-check"] => Ok(sheet_check::check(SHEETS)?.into()),
+        ["sheet-check", sheets] => Ok(sheet_check::check(number(sheets, "a number of sheets")?)?.into()),
         ["time-bench"] => Ok(time_bench::bench()?.into()),
         ["time-bench", "--only", side, plan, times] => {
             let times = number(times, "a number of timings")?;

@@ -42,7 +42,7 @@ fn said<S: AsRef<OsStr> + std::fmt::Debug>(arguments: &[S], input: &[u8]) -> Str
 #[test]
 fn bad_arguments_are_one_line_and_2() {
     let here = env!("CARGO_MANIFEST_DIR");
-    let bad: [&[&str]; 57] = [
+    let bad: [&[&str]; 59] = [
         &[],
         &["no-such-mode"],
         &[""],
@@ -92,6 +92,8 @@ fn bad_arguments_are_one_line_and_2() {
         &["time-check", "1", "2"],
         &["decode-check", "x"],
         &["decode-check", "1", "2"],
+        &["sheet-check", "x"],
+        &["sheet-check", "1", "2"],
         &["time-bench", "x"],
         &["time-bench", "--only", "rust", "shop-100"],
         &["time-bench", "--only", "rust", "shop-100", "x"],
@@ -206,7 +208,7 @@ fn one_side_alone_times_as_often_as_it_is_told() {
 #[cfg(not(proved))]
 #[test]
 fn without_the_library_it_is_one_line_and_2() {
-    for arguments in [&["time-check"][..], &["time-check", "1"], &["decode-check"], &["time-bench"]] {
+    for arguments in [&["time-check"][..], &["time-check", "1"], &["decode-check"], &["sheet-check"], &["time-bench"]] {
         is_one_line_and_2(arguments, &[]);
     }
     is_one_line_and_2(&["time-bench", "--only", "proved", "shop-100", "1"], &[]);
