@@ -5,7 +5,7 @@ use crate::answers::Sheet;
 use crate::check::Report;
 use crate::damage;
 use crate::decoding;
-use crate::generate::{self, Class, Rng};
+use crate::generate::{self, other_genes, Class, Rng};
 use crate::lent::{buffers, differing, five, too_few, written, TOO_SHORT};
 use crate::plan::Plan;
 use crate::proved::{Answer, Calls, Library, PLACES};
@@ -70,41 +70,6 @@ fn of_extremes(calls: &impl Calls) -> Tally {
         }
     }
     run.tally
-}
-
-/// The plan with an Order and an Assignment that are changed in one to three ways; it stays accepted.
-fn other_genes(plan: &Plan, rng: &mut Rng) -> Plan {
-    let mut plan = plan.clone();
-    let (tasks, machines) = (plan.tasks.len(), plan.transports.len());
-    for _ in 0..rng.within(1, 3) {
-        match rng.below(8) {
-            0 => rng.shuffle(&mut plan.order),
-            1 => plan.order.truncate(rng.index(plan.order.len() + 1)),
-            2 => plan.order.clear(),
-            // As long as it may be, with unknown tasks among the others.
-            3 => {
-                while plan.order.len() < 256 {
-                    let at = rng.index(plan.order.len() + 1);
-                    plan.order.insert(at, rng.index(tasks + 2) as u32);
-                }
-            }
-            4 => plan.assignment.truncate(rng.index(plan.assignment.len() + 1)),
-            5 => {
-                let part = rng.pick(&[5, 50, 95]);
-                plan.assignment.iter_mut().filter(|_| rng.chance(part)).for_each(|machine| *machine = -1);
-            }
-            // Whoever is waited for has no machine.
-            6 => {
-                for &(_, before) in &plan.predecessors {
-                    plan.assignment.get_mut(before as usize).into_iter().for_each(|machine| *machine = -1);
-                }
-            }
-            _ => {
-                plan.assignment = (0..plan.activities.len()).map(|_| rng.index(machines) as i32).collect();
-            }
-        }
-    }
-    plan
 }
 
 /// Calls of the library, each held against what is due.
@@ -183,7 +148,6 @@ impl<'a, C: Calls> Run<'a, C> {
 mod tests {
     use super::*;
     use crate::imitation::{finds, Fault};
-    use crate::timing;
 
     #[test]
     fn faults_are_found() {
@@ -192,31 +156,5 @@ mod tests {
         let lent = [Fault::ShortSetups, Fault::PlaceBehind, Fault::PlaceRefused, Fault::SeesBuffers];
         let read = [Fault::PlaceOff, Fault::NoStray, Fault::ActiveOnTies, Fault::AlwaysInOrder];
         finds(check, &[&rows[..], &lent, &read].concat());
-    }
-
-    /// Everything that the genes of a plan may lack or have too much of occurs at the full size, too.
-    #[test]
-    fn other_genes_stay_accepted_and_differ() {
-        let mut rng = Rng::new(3);
-        let mut counts = [0; 6];
-        for class in Class::ALL {
-            for seed in 0..100 {
-                let plan = other_genes(&generate::plan(seed, class), &mut rng);
-                assert_eq!(read(&plan.to_bytes()).as_ref(), Ok(&plan), "{} {seed}", class.name());
-                let machine = |activity: usize| timing::machine_of(&plan, activity);
-                let unplaced = plan.predecessors.iter().any(|&(_, before)| machine(before as usize).is_none());
-                let n = plan.activities.len();
-                let occurs = [
-                    plan.order.len() == 256,
-                    plan.order.is_empty(),
-                    timing::named(&plan).len() < n,
-                    (0..n).any(|activity| machine(activity).is_none()),
-                    unplaced,
-                    unplaced && n == 128,
-                ];
-                counts.iter_mut().zip(occurs).for_each(|(count, occurs)| *count += u64::from(occurs));
-            }
-        }
-        assert!(counts.iter().all(|&count| count > 10), "{counts:?}");
     }
 }

@@ -13,6 +13,7 @@ pub mod decoding;
 pub mod generate;
 #[cfg(test)]
 mod imitation;
+pub mod improve_check;
 pub mod intake;
 pub mod judge;
 pub mod lent;

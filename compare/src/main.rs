@@ -8,10 +8,10 @@ use std::process::ExitCode;
 use compare::generate::{self, Class};
 use compare::modes::{answer, Mode};
 use compare::time_bench::{self, Side};
-use compare::{check, damage, decode_check, intake, lines, sheet_check, store, text, time_check};
+use compare::{check, damage, decode_check, improve_check, intake, lines, sheet_check, store, text, time_check};
 
 /// Every way to call the tools; the first one stands for all modes.
-const USAGES: [&str; 14] = [
+const USAGES: [&str; 15] = [
     "MODE [INPUT [LINES]]",
     "to-text [INPUT]",
     "from-text [TEXT]",
@@ -23,6 +23,7 @@ const USAGES: [&str; 14] = [
     "time-check [N]",
     "decode-check [N]",
     "sheet-check [N]",
+    "improve-check [N]",
     "time-bench [--only SIDE PLAN TIMES]",
     "store [FOLDER]",
     "answers-check [FOLDER]",
@@ -37,7 +38,7 @@ const INPUTS: u64 = 10_000;
 /// How many inputs `intake-check` runs unless it is told.
 const INTAKES: u64 = 100_000;
 
-/// How many inputs `time-check` and `decode-check` run unless they are told.
+/// How many inputs `time-check`, `decode-check` and `improve-check` run unless they are told.
 const LIBRARY_INPUTS: u64 = 20_000;
 
 /// How many sheets `sheet-check` runs unless it is told.
@@ -111,6 +112,8 @@ fn dispatch(arguments: &[OsString]) -> Result<Said, String> {
         ["decode-check", inputs] => Ok(decode_check::check(number(inputs, "a number of inputs")?)?.into()),
         ["sheet-check"] => Ok(sheet_check::check(SHEETS)?.into()),
         ["sheet-check", sheets] => Ok(sheet_check::check(number(sheets, "a number of sheets")?)?.into()),
+        ["improve-check"] => Ok(improve_check::check(LIBRARY_INPUTS)?.into()),
+        ["improve-check", inputs] => Ok(improve_check::check(number(inputs, "a number of inputs")?)?.into()),
         ["time-bench"] => Ok(time_bench::bench()?.into()),
         ["time-bench", "--only", side, plan, times] => {
             let times = number(times, "a number of timings")?;

@@ -42,7 +42,7 @@ fn said<S: AsRef<OsStr> + std::fmt::Debug>(arguments: &[S], input: &[u8]) -> Str
 #[test]
 fn bad_arguments_are_one_line_and_2() {
     let here = env!("CARGO_MANIFEST_DIR");
-    let bad: [&[&str]; 59] = [
+    let bad: [&[&str]; 61] = [
         &[],
         &["no-such-mode"],
         &[""],
@@ -94,6 +94,8 @@ fn bad_arguments_are_one_line_and_2() {
         &["decode-check", "1", "2"],
         &["sheet-check", "x"],
         &["sheet-check", "1", "2"],
+        &["improve-check", "x"],
+        &["improve-check", "1", "2"],
         &["time-bench", "x"],
         &["time-bench", "--only", "rust", "shop-100"],
         &["time-bench", "--only", "rust", "shop-100", "x"],
@@ -208,8 +210,9 @@ fn one_side_alone_times_as_often_as_it_is_told() {
 #[cfg(not(proved))]
 #[test]
 fn without_the_library_it_is_one_line_and_2() {
-    for arguments in [&["time-check"][..], &["time-check", "1"], &["decode-check"], &["sheet-check"], &["time-bench"]] {
-        is_one_line_and_2(arguments, &[]);
+    for tool in ["time-check", "decode-check", "sheet-check", "improve-check", "time-bench"] {
+        is_one_line_and_2(&[tool], &[]);
     }
+    is_one_line_and_2(&["time-check", "1"], &[]);
     is_one_line_and_2(&["time-bench", "--only", "proved", "shop-100", "1"], &[]);
 }
