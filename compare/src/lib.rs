@@ -6,6 +6,8 @@ extern crate self as u_metaheur;
 extern crate self as u_numflow;
 
 pub mod answers;
+pub mod bench;
+pub mod call_bench;
 pub mod check;
 pub mod damage;
 pub mod decode_check;

@@ -5,13 +5,16 @@ use std::ffi::{OsStr, OsString};
 use std::io::{Read, Write};
 use std::process::ExitCode;
 
+use compare::bench::Side;
+use compare::call_bench::{self, Work};
 use compare::generate::{self, Class};
 use compare::modes::{answer, Mode};
-use compare::time_bench::{self, Side};
-use compare::{check, damage, decode_check, improve_check, intake, lines, sheet_check, store, text, time_check};
+use compare::{
+    check, damage, decode_check, improve_check, intake, lines, sheet_check, store, text, time_bench, time_check,
+};
 
 /// Every way to call the tools; the first one stands for all modes.
-const USAGES: [&str; 15] = [
+const USAGES: [&str; 17] = [
     "MODE [INPUT [LINES]]",
     "to-text [INPUT]",
     "from-text [TEXT]",
@@ -25,6 +28,8 @@ const USAGES: [&str; 15] = [
     "sheet-check [N]",
     "improve-check [N]",
     "time-bench [--only SIDE PLAN TIMES]",
+    "decode-bench [--only SIDE PLAN TIMES]",
+    "improve-bench [--only SIDE PLAN TIMES]",
     "store [FOLDER]",
     "answers-check [FOLDER]",
 ];
@@ -118,6 +123,16 @@ fn dispatch(arguments: &[OsString]) -> Result<Said, String> {
         ["time-bench", "--only", side, plan, times] => {
             let times = number(times, "a number of timings")?;
             Ok(time_bench::only(side_of(side)?, plan, times as usize)?.into())
+        }
+        ["decode-bench"] => Ok(call_bench::bench(Work::Decode)?.into()),
+        ["decode-bench", "--only", side, plan, times] => {
+            let times = number(times, "a number of calls")?;
+            Ok(call_bench::only(Work::Decode, side_of(side)?, plan, times as usize)?.into())
+        }
+        ["improve-bench"] => Ok(call_bench::bench(Work::Improve)?.into()),
+        ["improve-bench", "--only", side, plan, times] => {
+            let times = number(times, "a number of calls")?;
+            Ok(call_bench::only(Work::Improve, side_of(side)?, plan, times as usize)?.into())
         }
         ["store"] => Ok(store::store(store::FOLDER.as_ref())?.into()),
         ["store", _] => Ok(store::store(file(1).as_ref())?.into()),

@@ -134,6 +134,7 @@ fn other_sheet(plan: &Plan, whole: &[(&str, Vec<i64>)], rng: &mut Rng) -> (&'sta
     match rng.below(20) {
         0 => ("no rows", Vec::new()),
         1 => ("any numbers", any_rows(plan, rng)),
+        2 | 3 => ("of an easier plan", numbers(&decoding::decode(&easier(plan, rng), Decoder::InOrder))),
         _ => {
             let mut rows = whole[rng.index(whole.len())].1.clone();
             let kind = change(plan, &mut rows, rng);
@@ -143,6 +144,21 @@ fn other_sheet(plan: &Plan, whole: &[(&str, Vec<i64>)], rng: &mut Rng) -> (&'sta
             (kind, rows)
         }
     }
+}
+
+/// The plan without its predecessors, releases, transports or setups.
+fn easier(plan: &Plan, rng: &mut Rng) -> Plan {
+    let mut plan = plan.clone();
+    match rng.below(6) {
+        0..=2 => plan.predecessors.clear(),
+        3 => {
+            plan.activities.fill(0);
+            plan.tasks.iter_mut().for_each(|task| task.release = 0);
+        }
+        4 => plan.transports.iter_mut().for_each(|row| row.fill(0)),
+        _ => plan.setups.clear(),
+    }
+    plan
 }
 
 /// Rows that are nearly random: known activities and machines among others, ends at both ends, the last row often short.
@@ -173,6 +189,17 @@ fn any_number(plan: &Plan, rng: &mut Rng) -> i64 {
     }
 }
 
+/// A moment before which the row's activity cannot start: 0, its release, or the end of one that it names.
+fn bound(plan: &Plan, rows: &[i64], row: usize, rng: &mut Rng) -> i64 {
+    let known = |number: i64| usize::try_from(number).ok().filter(|&activity| activity < plan.activities.len());
+    let Some(activity) = known(rows[row]) else { return 0 };
+    let named = plan.predecessors.iter().filter(|pair| pair.0 as usize == activity).map(|pair| i64::from(pair.1));
+    let ends = named.filter_map(|named| rows.chunks_exact(NUMBERS).find(|row| row[0] == named).map(|row| row[3]));
+    let mut bounds: Vec<i64> = ends.collect();
+    bounds.extend([0, timing::release_of(plan, activity, timing::task_of(plan)[activity])]);
+    rng.pick(&bounds)
+}
+
 /// One change; its name.
 fn change(plan: &Plan, rows: &mut Vec<i64>, rng: &mut Rng) -> &'static str {
     let count = rows.len() / NUMBERS;
@@ -183,60 +210,60 @@ fn change(plan: &Plan, rows: &mut Vec<i64>, rng: &mut Rng) -> &'static str {
     let row = NUMBERS * rng.index(count);
     let other = NUMBERS * rng.index(count);
     let by_one = rng.pick(&[-1, 1]);
-    match rng.below(13) {
+    match rng.below(14) {
         0 => {
-            rows[row + 2] += by_one;
+            rows[row + 2] = rows[row + 2].wrapping_add(by_one);
             "a start moved by one"
         }
         1 => {
-            rows[row + 3] += by_one;
+            rows[row + 3] = rows[row + 3].wrapping_add(by_one);
             "an end moved by one"
         }
         // It keeps its span, so that the bounds are tested.
-        2 | 3 => {
-            let by = match rng.below(6) {
-                0 => LATEST as i64 - rows[row + 3] + rng.pick(&[0, 1]),
-                1 => -rows[row + 2] - rng.pick(&[0, 1]),
+        2..=4 => {
+            let by = match rng.below(8) {
+                0 => (LATEST as i64).wrapping_sub(rows[row + 3]).wrapping_add(rng.pick(&[0, 1])),
+                1..=4 => bound(plan, rows, row, rng).wrapping_sub(rows[row + 2]).wrapping_sub(rng.pick(&[0, 1, 1])),
                 _ => by_one,
             };
             rows[row + 2] = rows[row + 2].wrapping_add(by);
             rows[row + 3] = rows[row + 3].wrapping_add(by);
             "a row moved"
         }
-        4 => {
+        5 => {
             (0..NUMBERS).for_each(|k| rows.swap(row + k, other + k));
             "two rows swapped"
         }
-        5 => {
+        6 => {
             let again: Vec<i64> = rows[row..row + NUMBERS].to_vec();
             rows.splice(other..other, again);
             "a row twice"
         }
-        6 => {
+        7 => {
             rows.drain(row..row + NUMBERS);
             "a row left out"
         }
-        7 => {
+        8 => {
             rows[row + 1] = rng.index(plan.transports.len() + 1) as i64;
             "another machine"
         }
-        8 => {
+        9 => {
             rows[row] = rng.index(plan.activities.len() + 1) as i64;
             "another activity"
         }
-        9 => {
+        10 => {
             rows[row + rng.index(NUMBERS)] = any_number(plan, rng);
             "any number"
         }
         // Its successors then look for it behind themselves, where it is not tested yet.
-        10 => {
+        11 => {
             let mut late: Vec<i64> = rows.drain(row..row + NUMBERS).collect();
             late[3] = rng.pick(&[late[3], i64::MIN, i64::MAX, 0]);
             let at = rng.pick(&[rows.len(), rows.len() / NUMBERS / 2 * NUMBERS]);
             rows.splice(at..at, late);
             "a row moved behind"
         }
-        11 => {
+        12 => {
             rows.truncate(rows.len() - rng.within(1, NUMBERS as u64 - 1) as usize);
             "the last row short"
         }
