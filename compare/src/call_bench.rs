@@ -5,11 +5,10 @@ use std::fmt::Write;
 use std::time::Instant;
 
 use crate::bench::{by_turns, head, instructions, line_of_instructions, Measured, Side};
-use crate::generate::{self, Class};
+use crate::generate::{self, Class, Rng};
 use crate::plan::{Plan, Task, Times};
 use crate::proved::{Answer, Buffers, Calls, Ended, Genes, Given, Library, CELLS, MACHINES, PLACES};
 use crate::published::{Decoder, Published};
-use crate::timing;
 
 /// One measurement takes about so many seconds: the call is repeated until then.
 const SECONDS: f64 = 0.02;
@@ -41,7 +40,7 @@ impl Work {
     /// What is measured, by name: plans, for Improve each with 60 and with 1,000 steps.
     fn names(self) -> Vec<String> {
         let plans: &[&str] = match self {
-            Work::Improve => &["ft06", "shop-100", "shop-75", "flexible-128", "full-128"],
+            Work::Improve => &["ft06", "shop-100", "shop-75", "flexible-128", "setups-128"],
             Work::Decode => &["ft06", "shop-100", "full-128"],
         };
         match self {
@@ -60,25 +59,17 @@ impl Work {
     }
 }
 
+/// The generator's are those whose search makes 1,000 moves.
 fn plan_named(name: &str) -> Option<Plan> {
-    let shape = |plan: &Plan| (plan.tasks.len(), plan.transports.len());
     match name {
         "ft06" => Some(ft06()),
-        "shop-100" => first(Class::JobShop, |plan| shape(plan) == (10, 10)),
-        "shop-75" => first(Class::JobShop, |plan| shape(plan) == (15, 5)),
-        "flexible-128" => first(Class::Full, |plan| {
-            let near = plan.transports.iter().flatten().all(|&time| time == 0);
-            plan.candidates.len() == 2_048 && plan.setups.is_empty() && near
-        }),
+        "shop-100" => Some(generate::plan(899, Class::JobShop)),
+        "shop-75" => Some(generate::plan(251, Class::JobShop)),
+        "flexible-128" => Some(generate::plan(128, Class::Full)),
+        "setups-128" => Some(generate::plan(649, Class::Full)),
         "full-128" => Some(generate::longest_input()),
         _ => None,
     }
-}
-
-/// The generator's first plan of a class that fits and whose order can be timed.
-fn first(class: Class, fits: impl Fn(&Plan) -> bool) -> Option<Plan> {
-    let timed = |plan: &Plan| timing::lines_of_order(plan).and_then(|lines| timing::time(plan, &lines)).is_ok();
-    (0..2_000).map(|seed| generate::plan(seed, class)).find(|plan| fits(plan) && timed(plan))
 }
 
 /// The job shop of 6 x 6 that Fisher and Thompson published in 1963: machine and time of each job's steps. Its least makespan
@@ -92,9 +83,11 @@ const FT06: [[(u32, u32); 6]; 6] = [
     [(1, 3), (3, 3), (5, 9), (0, 10), (4, 4), (2, 1)],
 ];
 
-/// One candidate for each step, weight 0, the jobs in turns.
+/// One candidate for each step, weight 0, and an order with a long search: it makes 84 moves, then all are forbidden.
 fn ft06() -> Plan {
     let steps = FT06.concat();
+    let mut order: Vec<u32> = (0..36).map(|k| k % 6).collect();
+    Rng::new(72).shuffle(&mut order);
     Plan {
         tasks: vec![Task { category: 0, release: 0, deadline_flag: 0, deadline: 0, activities: 6 }; 6],
         activities: vec![0; steps.len()],
@@ -105,7 +98,7 @@ fn ft06() -> Plan {
         predecessors: Vec::new(),
         weight: 0,
         steps: 0,
-        order: (0..36).map(|k| k % 6).collect(),
+        order,
         assignment: steps.iter().map(|&(machine, _)| machine as i32).collect(),
     }
 }
@@ -234,22 +227,33 @@ mod tests {
     use super::*;
 
     #[test]
-    fn every_plan_is_there_and_can_be_searched() {
-        for work in [Work::Improve, Work::Decode] {
-            for name in work.names() {
-                let plan = work.plan_named(&name).unwrap_or_else(|why| panic!("{why}"));
-                let plan = Plan { steps: 60, ..plan };
-                assert!(Published::new(&plan).improve().outcome >= 13, "{name}");
-            }
+    fn searches_make_as_many_moves_as_they_may() {
+        for name in Work::Improve.names() {
+            let plan = Work::Improve.plan_named(&name).unwrap_or_else(|why| panic!("{why}"));
+            let made = Published::new(&plan).replay().1.len();
+            assert_eq!(made, if name == "ft06/1000" { 84 } else { plan.steps as usize }, "{name}");
         }
+        assert!(Work::Decode.names().iter().all(|name| Work::Decode.plan_named(name).is_ok()));
         assert!(Work::Decode.plan_named("ft06/60").is_err() && Work::Improve.plan_named("ft06/61").is_err());
     }
 
-    /// The search comes near the least makespan that is known of this shop.
+    #[test]
+    fn the_plans_are_what_they_are_called() {
+        let plan = |name: &str| plan_named(name).unwrap_or_else(|| panic!("{name}"));
+        let shape = |plan: &Plan| (plan.tasks.len(), plan.transports.len(), plan.activities.len());
+        assert_eq!(shape(&plan("shop-100")), (10, 10, 100));
+        assert_eq!(shape(&plan("shop-75")), (15, 5, 75));
+        let (flexible, setups) = (plan("flexible-128"), plan("setups-128"));
+        assert_eq!((shape(&flexible), flexible.candidates.len()), ((32, 16, 128), 2_048));
+        assert!(flexible.setups.is_empty() && flexible.transports.iter().flatten().all(|&time| time == 0));
+        assert_eq!((shape(&setups), setups.setups.len()), ((32, 16, 128), 1_152));
+    }
+
+    /// From this order the search comes to the least makespan that the shop is known for.
     #[test]
     fn ft06_is_the_published_shop() {
-        let mut published = Published::new(&Plan { steps: 1_000, ..ft06() });
-        let fitness = published.improve().fitness.map(f64::from_bits);
-        assert!(fitness.is_some_and(|fitness| (55.0..60.0).contains(&fitness)), "{fitness:?}");
+        let order = (0..36).map(|k| k / 2 % 6).collect();
+        let improved = Published::new(&Plan { steps: 60, order, ..ft06() }).improve();
+        assert_eq!(improved.fitness.map(f64::from_bits), Some(55.0));
     }
 }
