@@ -93,12 +93,11 @@ fn add(to: &mut Tally, from: Tally) {
 
 /// The class and the seed of the k-th input. All classes take turns; the full size, which takes as long as hundreds
 /// of others, has every fourth turn of its own.
-fn turn(k: u64) -> (usize, u64) {
+pub fn turn(k: u64) -> (Class, u64) {
     let classes = Class::ALL.len() as u64;
-    let (round, class) = (k / classes, (k % classes) as usize);
-    match Class::ALL[class] {
-        Class::Full if round % 4 != 0 => (0, (1 << 32) + round),
-        _ => (class, round),
+    match (Class::ALL[(k % classes) as usize], k / classes) {
+        (Class::Full, round) if round % 4 != 0 => (Class::Tiny, (1 << 32) + round),
+        turn => turn,
     }
 }
 
@@ -106,11 +105,11 @@ fn turn(k: u64) -> (usize, u64) {
 fn generated(inputs: u64) -> Vec<(usize, Tally)> {
     let tallies = spread("check", inputs, |k| {
         let (class, seed) = turn(k);
-        of_input(Class::ALL[class], seed)
+        of_input(class, seed)
     });
     let with_class = |(k, tally): (usize, Option<Tally>)| {
         let (class, seed) = turn(k as u64);
-        (class, tally.unwrap_or_else(|| crashed(Class::ALL[class], seed)))
+        (class as usize, tally.unwrap_or_else(|| crashed(class, seed)))
     };
     tallies.into_iter().enumerate().map(with_class).collect()
 }

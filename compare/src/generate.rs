@@ -787,6 +787,11 @@ fn steps(makings: &Makings, rng: &mut Rng) -> u32 {
 
 // ----------------------------------------------------------------------------------------- two extreme plans
 
+/// Both, by name.
+pub fn extremes() -> [(&'static str, Plan); 2] {
+    [("the longest input", longest_input()), ("the latest end", latest_end())]
+}
+
 /// The longest input there is: every section is full, 65,204 bytes in all.
 pub fn longest_input() -> Plan {
     let (tasks, activities, machines) = (32, 128, 16);
@@ -843,6 +848,43 @@ pub fn latest_end() -> Plan {
         order: vec![0; activities as usize],
         assignment: (0..activities).map(|a| machine(a) as i32).collect(),
     }
+}
+
+// -------------------------------------------------------------------------------------------------- other genes
+
+/// The plan with an Order and an Assignment that are changed in one to three ways; it stays accepted.
+pub fn other_genes(plan: &Plan, rng: &mut Rng) -> Plan {
+    let mut plan = plan.clone();
+    let (tasks, machines) = (plan.tasks.len(), plan.transports.len());
+    for _ in 0..rng.within(1, 3) {
+        match rng.below(8) {
+            0 => rng.shuffle(&mut plan.order),
+            1 => plan.order.truncate(rng.index(plan.order.len() + 1)),
+            2 => plan.order.clear(),
+            // As long as it may be, with unknown tasks among the others.
+            3 => {
+                while plan.order.len() < MOST_NAMINGS {
+                    let at = rng.index(plan.order.len() + 1);
+                    plan.order.insert(at, rng.index(tasks + 2) as u32);
+                }
+            }
+            4 => plan.assignment.truncate(rng.index(plan.assignment.len() + 1)),
+            5 => {
+                let part = rng.pick(&[5, 50, 95]);
+                plan.assignment.iter_mut().filter(|_| rng.chance(part)).for_each(|machine| *machine = -1);
+            }
+            // Whoever is waited for has no machine.
+            6 => {
+                for &(_, before) in &plan.predecessors {
+                    plan.assignment.get_mut(before as usize).into_iter().for_each(|machine| *machine = -1);
+                }
+            }
+            _ => {
+                plan.assignment = (0..plan.activities.len()).map(|_| rng.index(machines) as i32).collect();
+            }
+        }
+    }
+    plan
 }
 
 // ------------------------------------------------------------------------------------------- lines for timing
@@ -919,6 +961,7 @@ fn break_lines(lines: &mut Vec<Vec<u32>>, n: u32, rng: &mut Rng) {
 mod tests {
     use super::*;
     use crate::judge::judge;
+    use crate::timing;
 
     const SEEDS: u64 = 150;
 
@@ -1085,5 +1128,31 @@ mod tests {
             }
         }
         assert!(numbers[0] > 500 && numbers[7] > 200 && numbers[8] > 200, "{numbers:?}");
+    }
+
+    /// Everything that the genes of a plan may lack or have too much of occurs at the full size, too.
+    #[test]
+    fn other_genes_stay_accepted_and_differ() {
+        let mut rng = Rng::new(3);
+        let mut counts = [0; 6];
+        for class in Class::ALL {
+            for seed in 0..100 {
+                let plan = other_genes(&plan(seed, class), &mut rng);
+                assert_eq!(judge(&plan.to_bytes()), Ok(()), "{} {seed}", class.name());
+                let machine = |activity: usize| timing::machine_of(&plan, activity);
+                let unplaced = plan.predecessors.iter().any(|&(_, before)| machine(before as usize).is_none());
+                let n = plan.activities.len();
+                let occurs = [
+                    plan.order.len() == MOST_NAMINGS,
+                    plan.order.is_empty(),
+                    timing::named(&plan).len() < n,
+                    (0..n).any(|activity| machine(activity).is_none()),
+                    unplaced,
+                    unplaced && n == 128,
+                ];
+                counts.iter_mut().zip(occurs).for_each(|(count, occurs)| *count += u64::from(occurs));
+            }
+        }
+        assert!(counts.iter().all(|&count| count > 10), "{counts:?}");
     }
 }

@@ -1,8 +1,8 @@
 //! The proved reader against the readers of this package: many inputs go through its program in one run, and each answer
 //! is held against that of `read`, and of `judge`, which was written apart.
 
+use std::ffi::OsString;
 use std::io::{BufRead, BufReader, BufWriter, Write};
-use std::path::Path;
 use std::process::{Command, Stdio};
 use std::time::Instant;
 
@@ -14,8 +14,9 @@ use crate::{judge, read};
 /// How many copies of the longest input are timed.
 const COPIES: u32 = 2_000;
 
-/// Runs `inputs` inputs, generated, damaged and random, and every damage of the sample, through the program.
-pub fn check(program: &Path, inputs: u64) -> Result<Report, String> {
+/// Runs `inputs` inputs, generated, damaged and random, and every damage of the sample, through the program. It is given
+/// as the words of a command, so that an emulator can stand before it.
+pub fn check(program: &[OsString], inputs: u64) -> Result<Report, String> {
     let mut cases: Vec<Vec<u8>> = damage::every(&damage::sample()).into_iter().map(|(_, bytes)| bytes).collect();
     cases.push(generate::longest_input().to_bytes());
     cases.extend((0..inputs).map(input));
@@ -106,7 +107,7 @@ fn summary(expected: &[String]) -> String {
 }
 
 /// The longest input, again and again, through the program and through `read`.
-fn timed(program: &Path) -> Result<String, String> {
+fn timed(program: &[OsString]) -> Result<String, String> {
     let longest = generate::longest_input().to_bytes();
     let begun = Instant::now();
     run(program, (0..COPIES).map(|_| longest.as_slice()))?;
@@ -125,12 +126,14 @@ fn timed(program: &Path) -> Result<String, String> {
 }
 
 /// One line a plan, from one run of the program.
-fn run<'a>(program: &Path, plans: impl Iterator<Item = &'a [u8]>) -> Result<Vec<String>, String> {
-    let failed = |why: std::io::Error| format!("{}: {why}", program.display());
-    let mut child =
-        Command::new(program).stdin(Stdio::piped()).stdout(Stdio::piped()).spawn().map_err(failed)?;
+fn run<'a>(program: &[OsString], plans: impl Iterator<Item = &'a [u8]>) -> Result<Vec<String>, String> {
+    let (first, others) = program.split_first().ok_or("no program is given")?;
+    let failed = |why: std::io::Error| format!("{}: {why}", first.to_string_lossy().escape_debug());
+    let mut command = Command::new(first);
+    command.args(others).stdin(Stdio::piped()).stdout(Stdio::piped());
+    let mut child = command.spawn().map_err(failed)?;
     let (Some(stdin), Some(stdout)) = (child.stdin.take(), child.stdout.take()) else {
-        return Err(format!("{}: no pipes", program.display()));
+        return Err("the program has no pipes".to_string());
     };
     let reader = std::thread::spawn(move || BufReader::new(stdout).lines().collect::<Result<Vec<_>, _>>());
     let mut writer = BufWriter::new(stdin);

@@ -5,13 +5,16 @@ use std::ffi::{OsStr, OsString};
 use std::io::{Read, Write};
 use std::process::ExitCode;
 
+use compare::bench::Side;
+use compare::call_bench::{self, Work};
 use compare::generate::{self, Class};
 use compare::modes::{answer, Mode};
-use compare::time_bench::{self, Side};
-use compare::{check, damage, intake, lines, store, text, time_check};
+use compare::{
+    check, damage, decode_check, improve_check, intake, lines, sheet_check, store, text, time_bench, time_check,
+};
 
 /// Every way to call the tools; the first one stands for all modes.
-const USAGES: [&str; 12] = [
+const USAGES: [&str; 17] = [
     "MODE [INPUT [LINES]]",
     "to-text [INPUT]",
     "from-text [TEXT]",
@@ -19,9 +22,14 @@ const USAGES: [&str; 12] = [
     "damage SEED [INPUT]",
     "classes",
     "check [N]",
-    "intake-check PROGRAM [N]",
+    "intake-check [N] PROGRAM...",
     "time-check [N]",
+    "decode-check [N]",
+    "sheet-check [N]",
+    "improve-check [N]",
     "time-bench [--only SIDE PLAN TIMES]",
+    "decode-bench [--only SIDE PLAN TIMES]",
+    "improve-bench [--only SIDE PLAN TIMES]",
     "store [FOLDER]",
     "answers-check [FOLDER]",
 ];
@@ -35,8 +43,11 @@ const INPUTS: u64 = 10_000;
 /// How many inputs `intake-check` runs unless it is told.
 const INTAKES: u64 = 100_000;
 
-/// How many inputs `time-check` runs unless it is told.
-const TIMINGS: u64 = 20_000;
+/// How many inputs `time-check`, `decode-check` and `improve-check` run unless they are told.
+const LIBRARY_INPUTS: u64 = 20_000;
+
+/// How many sheets `sheet-check` runs unless it is told.
+const SHEETS: u64 = 50_000;
 
 /// What goes to standard output, and whether a check found a difference.
 struct Said {
@@ -96,16 +107,32 @@ fn dispatch(arguments: &[OsString]) -> Result<Said, String> {
         ["classes"] => Ok(Class::ALL.map(|class| format!("{}\n", class.name())).concat().into()),
         ["check"] => Ok(check::check(INPUTS)?.into()),
         ["check", inputs] => Ok(check::check(number(inputs, "a number of inputs")?)?.into()),
-        ["intake-check", _] => Ok(intake::check(file(1).as_ref(), INTAKES)?.into()),
-        ["intake-check", _, inputs] => {
-            Ok(intake::check(file(1).as_ref(), number(inputs, "a number of inputs")?)?.into())
+        ["intake-check", inputs, _, ..] if is_number(inputs) => {
+            Ok(intake::check(&arguments[2..], number(inputs, "a number of inputs")?)?.into())
         }
-        ["time-check"] => Ok(time_check::check(TIMINGS)?.into()),
+        ["intake-check", program, ..] if !is_number(program) => Ok(intake::check(&arguments[1..], INTAKES)?.into()),
+        ["time-check"] => Ok(time_check::check(LIBRARY_INPUTS)?.into()),
         ["time-check", inputs] => Ok(time_check::check(number(inputs, "a number of inputs")?)?.into()),
+        ["decode-check"] => Ok(decode_check::check(LIBRARY_INPUTS)?.into()),
+        ["decode-check", inputs] => Ok(decode_check::check(number(inputs, "a number of inputs")?)?.into()),
+        ["sheet-check"] => Ok(sheet_check::check(SHEETS)?.into()),
+        ["sheet-check", sheets] => Ok(sheet_check::check(number(sheets, "a number of sheets")?)?.into()),
+        ["improve-check"] => Ok(improve_check::check(LIBRARY_INPUTS)?.into()),
+        ["improve-check", inputs] => Ok(improve_check::check(number(inputs, "a number of inputs")?)?.into()),
         ["time-bench"] => Ok(time_bench::bench()?.into()),
         ["time-bench", "--only", side, plan, times] => {
             let times = number(times, "a number of timings")?;
             Ok(time_bench::only(side_of(side)?, plan, times as usize)?.into())
+        }
+        ["decode-bench"] => Ok(call_bench::bench(Work::Decode)?.into()),
+        ["decode-bench", "--only", side, plan, times] => {
+            let times = number(times, "a number of calls")?;
+            Ok(call_bench::only(Work::Decode, side_of(side)?, plan, times as usize)?.into())
+        }
+        ["improve-bench"] => Ok(call_bench::bench(Work::Improve)?.into()),
+        ["improve-bench", "--only", side, plan, times] => {
+            let times = number(times, "a number of calls")?;
+            Ok(call_bench::only(Work::Improve, side_of(side)?, plan, times as usize)?.into())
         }
         ["store"] => Ok(store::store(store::FOLDER.as_ref())?.into()),
         ["store", _] => Ok(store::store(file(1).as_ref())?.into()),
@@ -199,10 +226,13 @@ fn shown(file: &OsStr) -> String {
     }
 }
 
+fn is_number(word: &str) -> bool {
+    !word.is_empty() && word.bytes().all(|byte| byte.is_ascii_digit())
+}
+
 fn number(word: &str, what: &str) -> Result<u64, String> {
-    let digits = !word.is_empty() && word.bytes().all(|byte| byte.is_ascii_digit());
     match word.parse() {
-        Ok(number) if digits => Ok(number),
+        Ok(number) if is_number(word) => Ok(number),
         _ => Err(format!("{what} is a whole number from 0 to {}, not '{}'", u64::MAX, word.escape_debug())),
     }
 }

@@ -2,6 +2,7 @@
 //! machine 3 "m3", category 3 "c3".
 
 use std::collections::{BTreeMap, HashMap};
+use std::time::{Duration, Instant};
 
 use crate::answers::{Improved, Made, Sheet, Step};
 use crate::ga::chromosome::ScheduleChromosome;
@@ -95,6 +96,17 @@ impl Published {
             },
             _ => Improved { outcome: 13, fitness: Some(before.fitness), genes: None },
         }
+    }
+
+    /// Runs the text's `improve` so often, each time on a copy of the genes; how long it took, copying apart. Two copies
+    /// are made at least, so that they count alike in a run with one time and with two.
+    pub fn improve_again(&self, times: usize) -> Duration {
+        let mut copies = vec![self.genes.clone(); times.max(2)];
+        let begun = Instant::now();
+        for genes in copies.iter_mut().take(times) {
+            self.problem.improve_genes(std::hint::black_box(genes));
+        }
+        begun.elapsed()
     }
 
     /// `improve` once more, step by step through the text's own functions, with the moves made.

@@ -1,18 +1,17 @@
-//! `time-bench`: one timing of the same lines in the published Rust and in the proved library, by turns in one process;
-//! and the instructions that each takes, counted by callgrind on runs of one side alone.
+//! `time-bench`: one timing of the same lines in the published Rust and in the proved library.
 
 use std::fmt::Write;
-use std::process::Command;
 use std::time::Instant;
 
+use crate::bench::{by_turns, head, instructions, line_of_instructions, Measured, Side};
 use crate::generate::{self, Class};
 use crate::plan::Plan;
-use crate::proved::{Given, Library, CELLS, MACHINES, STRETCH};
+use crate::proved::{Calls, Given, Library, CELLS, MACHINES, STRETCH};
 use crate::published::{Lines, Published};
 use crate::timing;
 
-/// How often each side is measured, after one time that does not count.
-const REPEATS: usize = 21;
+/// The call that it measures.
+const CALLS: [&str; 1] = ["lavkkesto_time_again"];
 
 /// A measurement is the difference of two calls with so many timings, so that taking the plan in plays no part.
 const FEW: usize = 200;
@@ -21,27 +20,6 @@ const MANY: usize = 4_200;
 /// The same for counts of instructions, which do not waver.
 const FEW_COUNTED: usize = 100;
 const MANY_COUNTED: usize = 1_100;
-
-#[derive(Clone, Copy, Debug, PartialEq, Eq)]
-pub enum Side {
-    Rust,
-    Proved,
-}
-
-impl Side {
-    const BOTH: [Side; 2] = [Side::Rust, Side::Proved];
-
-    pub fn named(name: &str) -> Option<Side> {
-        Side::BOTH.into_iter().find(|side| side.name() == name)
-    }
-
-    fn name(self) -> &'static str {
-        match self {
-            Side::Rust => "rust",
-            Side::Proved => "proved",
-        }
-    }
-}
 
 /// The plans measured, by name.
 const PLANS: [&str; 3] = ["shop-100", "full-128", "bare-128"];
@@ -89,7 +67,7 @@ impl Timed {
                 let end = self.published.time_again(&self.lines, times);
                 end.map(|end| end as u64).ok_or_else(|| "the lines contradict".to_string())
             }
-            Side::Proved => Ok(Library::linked()?.time_again(&self.bytes, &self.given, times)),
+            Side::Proved => Ok(Library::linked(&CALLS)?.time_again(&self.bytes, &self.given, times)),
         }
     }
 
@@ -100,57 +78,37 @@ impl Timed {
         Ok(begun.elapsed().as_secs_f64())
     }
 
-    /// Nanoseconds for one timing on each side, in rising order. The sides take turns; of the short calls the quickest
-    /// is taken away, since whatever disturbs a call makes it longer.
-    fn measured(&self) -> Result<[Vec<f64>; 2], String> {
-        let mut calls = [(f64::INFINITY, Vec::new()), (f64::INFINITY, Vec::new())];
-        for repeat in 0..=REPEATS {
-            for (side, (few, many)) in Side::BOTH.into_iter().zip(&mut calls) {
-                *few = few.min(self.seconds(side, FEW)?);
-                let seconds = self.seconds(side, MANY)?;
-                if repeat > 0 {
-                    many.push(seconds);
-                }
-            }
-        }
-        Ok(calls.map(|(few, many)| {
-            let mut times: Vec<f64> = many.iter().map(|many| (many - few) * 1e9 / (MANY - FEW) as f64).collect();
-            times.sort_by(f64::total_cmp);
-            times
-        }))
+    /// Nanoseconds for one timing on each side. Of the short calls the quickest is taken away, since whatever disturbs a
+    /// call makes it longer.
+    fn measured(&self) -> Result<[Measured; 2], String> {
+        let mut few = [f64::INFINITY; 2];
+        let [rust, proved] = by_turns(|side| {
+            let few = &mut few[side as usize];
+            *few = few.min(self.seconds(side, FEW)?);
+            self.seconds(side, MANY)
+        })?;
+        let for_one = |few: f64| move |many: f64| (many - few) * 1e9 / (MANY - FEW) as f64;
+        Ok([rust.map(for_one(few[0])), proved.map(for_one(few[1]))])
     }
 }
 
 /// Both sides on every plan.
 pub fn bench() -> Result<String, String> {
-    Library::linked()?;
-    let mut text = format!(
-        "{:<10}{:>34}{:>34}{:>9}\n",
-        "plan", "Rust, ns (least to greatest)", "proved, ns (least to greatest)", "ratio"
-    );
+    Library::linked(&CALLS)?;
+    let mut text = format!("{}\n", head("ns (least to greatest)"));
     for name in PLANS {
         let timed = Timed::named(name)?;
         let [rust, proved] = [timed.run(Side::Rust, 1)?, timed.run(Side::Proved, 1)?];
         if rust != proved {
             return Err(format!("{name}: the Rust's greatest end is {rust}, the library's {proved}"));
         }
-        let measured = timed.measured()?;
-        let [rust, proved] = measured.each_ref().map(|times| times[REPEATS / 2]);
-        let [by_rust, by_library] = measured
-            .each_ref()
-            .map(|times| format!("{:.0} ({:.0} to {:.0})", times[REPEATS / 2], times[0], times[REPEATS - 1]));
-        let _ = writeln!(text, "{name:<10}{by_rust:>34}{by_library:>34}{:>9.2}", proved / rust);
+        let [rust, proved] = timed.measured()?;
+        let ratio = proved.median() / rust.median();
+        let _ = writeln!(text, "{name:<16}{:>34}{:>34}{ratio:>9.2}", rust.shown(0), proved.shown(0));
     }
-    let _ = writeln!(text, "{:<10}{:>34}{:>34}{:>9}", "plan", "Rust, instructions", "proved, instructions", "ratio");
+    let _ = writeln!(text, "{}", head("instructions"));
     for name in PLANS {
-        match instructions(name) {
-            Ok([rust, proved]) => {
-                let _ = writeln!(text, "{name:<10}{rust:>34.0}{proved:>34.0}{:>9.2}", proved / rust);
-            }
-            Err(why) => {
-                let _ = writeln!(text, "{name:<10}not counted: {why}");
-            }
-        }
+        text += &line_of_instructions(name, instructions("time-bench", name, FEW_COUNTED, MANY_COUNTED));
     }
     Ok(text)
 }
@@ -158,27 +116,4 @@ pub fn bench() -> Result<String, String> {
 /// One side alone, so often, for a count from outside; the greatest end.
 pub fn only(side: Side, plan: &str, times: usize) -> Result<String, String> {
     Ok(format!("{}\n", Timed::named(plan)?.run(side, times)?))
-}
-
-/// Instructions of one timing, of the Rust and of the library.
-fn instructions(plan: &str) -> Result<[f64; 2], String> {
-    let [rust, proved] = Side::BOTH.map(|side| {
-        let [few, many] = [FEW_COUNTED, MANY_COUNTED].map(|times| counted(side, plan, times));
-        Ok::<f64, String>((many? - few?) / (MANY_COUNTED - FEW_COUNTED) as f64)
-    });
-    Ok([rust?, proved?])
-}
-
-/// The instructions of this program with one side alone.
-fn counted(side: Side, plan: &str, times: usize) -> Result<f64, String> {
-    let own = std::env::current_exe().map_err(|why| why.to_string())?;
-    let run = Command::new("valgrind")
-        .args(["--tool=callgrind", "--callgrind-out-file=/dev/null"])
-        .arg(own)
-        .args(["time-bench", "--only", side.name(), plan, &times.to_string()])
-        .output()
-        .map_err(|why| format!("valgrind: {why}"))?;
-    let said = String::from_utf8_lossy(&run.stderr);
-    let count = said.lines().find_map(|line| line.split_once("Collected :")?.1.trim().parse().ok());
-    count.ok_or_else(|| "valgrind says no count".to_string())
 }

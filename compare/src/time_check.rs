@@ -1,120 +1,38 @@
 //! `time-check`: the timing calls of the proved library against the published Rust and against document 01's words
 //! (`timing`), on generated plans and on damaged ones, with lines of every kind, in one process.
 
-use std::collections::BTreeMap;
-use std::fmt::Write;
-use std::path::Path;
-
 use crate::answers::Sheet;
 use crate::check::Report;
 use crate::damage;
 use crate::generate::{self, Class, Rng};
+use crate::lent::{buffers, differing, enough, five, too_few, written, TOO_SHORT};
 use crate::lines;
 use crate::plan::Plan;
-use crate::proved::{Answer, Buffers, Given, Library, CELLS, MACHINES, STRETCH};
+use crate::proved::{Answer, Buffers, Calls, Given, Library, CELLS, MACHINES, PLACES, STRETCH};
 use crate::published::{beyond_the_rust, Lines, Published};
 use crate::read::{read, Refused};
-use crate::spread::spread;
+use crate::tally::{in_turns, Difference, Table, Tally};
 use crate::timing;
 
-/// Where the inputs of differences are saved.
-const FOLDER: &str = concat!(env!("CARGO_MANIFEST_DIR"), "/target/differences");
+/// The calls that it makes.
+const CALLS: [&str; 3] = ["lavkkesto_time", "lavkkesto_time_order", "lavkkesto_time_again"];
 
-/// So many are told and saved; the others are counted.
-const TOLD: usize = 10;
-
-/// The fewest places that a result buffer may have.
-const PLACES: usize = 128;
-
-const TOO_SHORT: Refused = Refused { number: 6, place: 0 };
+/// Lines timed, or refused with 1 to 8.
+const TABLE: Table = Table { name: "time-check", columns: &["timed", "1", "2", "3", "4", "5", "6", "7", "8"] };
 
 /// The sheet that a call must write, or its refusal.
 type Due = Result<Sheet, Refused>;
 
-/// What came of some inputs.
-#[derive(Default)]
-struct Tally {
-    inputs: u64,
-    /// Inputs that no Rust problem can be, or whose setups rest on document 01.
-    beyond: u64,
-    /// How often lines were timed, or refused with 1 to 8.
-    answers: [u64; 9],
-    differences: Vec<Difference>,
-}
-
-struct Difference {
-    what: String,
-    input: Vec<u8>,
-    lines: Option<Given>,
-}
-
 /// Runs `inputs` generated inputs, all classes in turns. An error is about the library or the folder of differences.
 pub fn check(inputs: u64) -> Result<Report, String> {
-    let library = Library::linked()?;
-    // What an earlier run saved would be taken for this one's.
-    let _ = std::fs::remove_dir_all(FOLDER);
-    let turn = |k: u64| (Class::ALL[k as usize % Class::ALL.len()], k / Class::ALL.len() as u64);
-    let tallies = spread("time-check", inputs, |k| {
-        let (class, seed) = turn(k);
-        of_input(library, class, seed)
-    });
-    let mut by_class: BTreeMap<usize, Tally> = BTreeMap::new();
-    for (k, tally) in tallies.into_iter().enumerate() {
-        let (class, seed) = turn(k as u64);
-        add(by_class.entry(class as usize).or_default(), tally.unwrap_or_else(|| crashed(class, seed)));
-    }
-    let mut all = Tally::default();
-    all.differences.extend(of_extremes(library));
-    let numbers: String = (1..=8).map(|number| format!("{number:>9}")).collect();
-    let mut text = format!("{:<18}{:>8}{:>9}{:>9}{numbers}\n", "class", "inputs", "beyond", "timed");
-    for (class, tally) in by_class {
-        put_row(&mut text, Class::ALL[class].name(), &tally);
-        add(&mut all, tally);
-    }
-    put_row(&mut text, "all", &all);
-    for difference in all.differences.iter().take(TOLD).enumerate() {
-        let _ = writeln!(text, "difference: {}", saved(difference)?);
-    }
-    let (calls, differences) = (all.answers.iter().sum::<u64>(), all.differences.len());
-    let _ = writeln!(text, "time-check: {inputs} inputs, {calls} calls, {differences} differences");
-    Ok(Report { text, differences })
+    TABLE.report(tallies(&Library::linked(&CALLS)?, inputs), "calls")
 }
 
-fn put_row(text: &mut String, name: &str, tally: &Tally) {
-    let answers = tally.answers.map(|count| format!("{count:>9}")).concat();
-    let _ = writeln!(text, "{name:<18}{:>8}{:>9}{answers}", tally.inputs, tally.beyond);
-}
-
-fn add(to: &mut Tally, from: Tally) {
-    to.inputs += from.inputs;
-    to.beyond += from.beyond;
-    to.answers.iter_mut().zip(from.answers).for_each(|(to, from)| *to += from);
-    to.differences.extend(from.differences);
-}
-
-fn crashed(class: Class, seed: u64) -> Tally {
-    let input = generate::plan(seed, class).to_bytes();
-    let difference = Difference { what: format!("{} {seed}: a crash", class.name()), input, lines: None };
-    Tally { inputs: 1, differences: vec![difference], ..Tally::default() }
-}
-
-/// The difference with the names of the files that its input and its lines are saved in.
-fn saved((k, difference): (usize, &Difference)) -> Result<String, String> {
-    let failed = |path: &Path, why: std::io::Error| format!("{}: {why}", path.display());
-    let folder = Path::new(FOLDER);
-    std::fs::create_dir_all(folder).map_err(|why| failed(folder, why))?;
-    let save = |kind: &str, bytes: &[u8]| {
-        let path = folder.join(format!("{}.{kind}", k + 1));
-        std::fs::write(&path, bytes).map_err(|why| failed(&path, why))?;
-        Ok::<_, String>(path.display().to_string())
-    };
-    let mut told = format!("{}; input saved as {}", difference.what, save("input", &difference.input)?);
-    match difference.lines.as_ref().map(as_words) {
-        Some(Some(words)) => told += &format!(", lines as {}", save("lines", &words)?),
-        Some(None) => told += ", its lines are none that words can say",
-        None => {}
-    }
-    Ok(told)
+/// The same with any calls.
+fn tallies(calls: &impl Calls, inputs: u64) -> Vec<(&'static str, Tally)> {
+    let mut tallies = TABLE.tallies(inputs, in_turns, |class, seed| of_input(calls, class, seed));
+    tallies.push(("extremes", of_extremes(calls)));
+    tallies
 }
 
 /// Lines as a file holds them; none where a cell is no word or a line leaves its stretch.
@@ -130,9 +48,9 @@ fn as_words(given: &Given) -> Option<Vec<u8>> {
 // -------------------------------------------------------------------------------------------------- one input
 
 /// A plan of a class, and the same with some faults.
-fn of_input(library: Library, class: Class, seed: u64) -> Tally {
+fn of_input(calls: &impl Calls, class: Class, seed: u64) -> Tally {
     let plan = generate::plan(seed, class);
-    let mut run = Run::new(library, format!("{} {seed}", class.name()), seed ^ (class as u64) << 40);
+    let mut run = Run::new(calls, format!("{} {seed}", class.name()), seed ^ (class as u64) << 40);
     run.tally.inputs = 1;
     run.tally.beyond = u64::from(!beyond_the_rust(&plan).is_empty());
     let lines = run.accepted(&plan);
@@ -146,27 +64,27 @@ fn of_input(library: Library, class: Class, seed: u64) -> Tally {
 }
 
 /// The longest input and the latest end.
-fn of_extremes(library: Library) -> Vec<Difference> {
-    let extremes = [("the longest input", generate::longest_input()), ("the latest end", generate::latest_end())];
-    let of = |(name, plan): (&str, Plan)| {
-        let mut run = Run::new(library, name.to_string(), 0);
+fn of_extremes(calls: &impl Calls) -> Tally {
+    let mut run = Run::new(calls, String::new(), 0);
+    for (name, plan) in generate::extremes() {
+        run.name = name.to_string();
+        run.tally.inputs += 1;
         run.accepted(&plan);
-        run.tally.differences
-    };
-    extremes.into_iter().flat_map(of).collect()
+    }
+    run.tally
 }
 
 /// Calls of the library, each held against what is due.
-struct Run {
-    library: Library,
+struct Run<'a, C> {
+    calls: &'a C,
     name: String,
     rng: Rng,
     tally: Tally,
 }
 
-impl Run {
-    fn new(library: Library, name: String, seed: u64) -> Run {
-        Run { library, name, rng: Rng::new(seed ^ 0x7469_6d65_5f63_6865), tally: Tally::default() }
+impl<'a, C: Calls> Run<'a, C> {
+    fn new(calls: &'a C, name: String, seed: u64) -> Run<'a, C> {
+        Run { calls, name, rng: Rng::new(seed ^ 0x7469_6d65_5f63_6865), tally: Tally::new(TABLE.columns.len()) }
     }
 
     /// Every kind of lines for an accepted plan; returns lines that fit it.
@@ -246,15 +164,11 @@ impl Run {
     /// One buffer short, or the cells: number 6.
     fn too_short(&mut self, bytes: &[u8], lines: &Lines) {
         let mut given = given(lines, &mut self.rng);
-        let mut places = self.places();
-        let short = |limit: usize, rng: &mut Rng| match rng.below(4) {
-            0 => rng.index(limit),
-            _ => limit - 1,
-        };
+        let mut places = five(&mut self.rng);
         let buffer = self.rng.index(6);
         match places.get_mut(buffer) {
-            Some(places) => *places = short(PLACES, &mut self.rng),
-            None => given.cells.truncate(short(CELLS, &mut self.rng)),
+            Some(places) => *places = too_few(PLACES, &mut self.rng),
+            None => given.cells.truncate(too_few(CELLS, &mut self.rng)),
         }
         self.on_lines_into(places, "something short", bytes, &given, &Err(TOO_SHORT));
         if buffer < places.len() {
@@ -266,13 +180,8 @@ impl Run {
 
     // ---------------------------------------------------------------------------------------------- the calls
 
-    /// Buffers of 128 places and of more.
-    fn places(&mut self) -> [usize; 5] {
-        std::array::from_fn(|_| PLACES + self.rng.pick(&[0, 0, 1, 72]))
-    }
-
     fn on_lines(&mut self, kind: &str, bytes: &[u8], given: &Given, due: &Due) {
-        let places = self.places();
+        let places = five(&mut self.rng);
         self.on_lines_into(places, kind, bytes, given, due);
         self.again(kind, bytes, given, due);
     }
@@ -280,19 +189,19 @@ impl Run {
     fn on_lines_into(&mut self, places: [usize; 5], kind: &str, bytes: &[u8], given: &Given, due: &Due) {
         let before = buffers(places, &mut self.rng);
         let mut after = before.clone();
-        let answer = self.library.time(bytes, given, &mut after);
+        let answer = self.calls.time(bytes, given, &mut after);
         self.hold(kind, bytes, Some(given), due, answer, before, &after);
     }
 
     fn in_order(&mut self, bytes: &[u8], due: &Due) {
-        let places = self.places();
+        let places = five(&mut self.rng);
         self.in_order_into(places, bytes, due);
     }
 
     fn in_order_into(&mut self, places: [usize; 5], bytes: &[u8], due: &Due) {
         let before = buffers(places, &mut self.rng);
         let mut after = before.clone();
-        let answer = self.library.time_order(bytes, &mut after);
+        let answer = self.calls.time_order(bytes, &mut after);
         self.hold("in order", bytes, None, due, answer, before, &after);
     }
 
@@ -300,7 +209,7 @@ impl Run {
     fn again(&mut self, kind: &str, bytes: &[u8], given: &Given, due: &Due) {
         let times = 1 + self.rng.index(3);
         let greatest = |sheet: &Sheet| sheet.rows.iter().map(|row| row.end as u64).max().unwrap_or(0);
-        let (due, end) = (due.as_ref().map_or(0, greatest), self.library.time_again(bytes, given, times));
+        let (due, end) = (due.as_ref().map_or(0, greatest), self.calls.time_again(bytes, given, times));
         if end != due {
             self.tell(format!("{kind}, timed {times} times: due end {due}, not {end}"), bytes, Some(given));
         }
@@ -318,9 +227,9 @@ impl Run {
         before: Buffers,
         after: &Buffers,
     ) {
-        self.tally.answers[due.as_ref().map_or_else(|refused| refused.number as usize, |_| 0)] += 1;
+        self.tally.counts[due.as_ref().map_or_else(|refused| refused.number as usize, |_| 0)] += 1;
         let due_answer = match due {
-            Ok(sheet) => Answer::Timed { fitness: sheet.fitness },
+            Ok(sheet) => Answer::Rows { count: sheet.rows.len(), fitness: sheet.fitness },
             Err(refused) => Answer::Refused(*refused),
         };
         if answer != due_answer {
@@ -331,44 +240,15 @@ impl Run {
     }
 
     fn tell(&mut self, what: String, input: &[u8], lines: Option<&Given>) {
-        let what = format!("{}: {what}", self.name);
-        self.tally.differences.push(Difference { what, input: input.to_vec(), lines: lines.cloned() });
+        let mut what = format!("{}: {what}", self.name);
+        let mut files = vec![("input", input.to_vec())];
+        match lines.map(as_words) {
+            Some(Some(words)) => files.push(("lines", words)),
+            Some(None) => what += " (its lines are none that words can say)",
+            None => {}
+        }
+        self.tally.differences.push(Difference { what, files });
     }
-}
-
-/// Buffers of so many places, full of anything.
-fn buffers(places: [usize; 5], rng: &mut Rng) -> Buffers {
-    let mut any = |places: usize| -> Vec<u64> { (0..places).map(|_| rng.next()).collect() };
-    let [activities, machines, starts, ends, setups] = places.map(&mut any);
-    let numbers = |words: Vec<u64>| words.into_iter().map(|word| word as usize).collect();
-    Buffers { activities: numbers(activities), machines: numbers(machines), starts, ends, setups }
-}
-
-/// The buffers with the rows that are due.
-fn written(mut buffers: Buffers, due: &Due) -> Buffers {
-    let rows = due.as_ref().map_or(&[][..], |sheet| &sheet.rows);
-    for (k, row) in rows.iter().enumerate() {
-        buffers.activities[k] = row.activity;
-        buffers.machines[k] = row.machine;
-        buffers.starts[k] = row.start as u64;
-        buffers.ends[k] = row.end as u64;
-        buffers.setups[k] = row.setup as u64;
-    }
-    buffers
-}
-
-/// The first place where the buffers are not as they must be.
-fn differing(due: &Buffers, found: &Buffers) -> Option<String> {
-    let first = |name: &str, due: &[u64], found: &[u64]| {
-        let k = due.iter().zip(found).position(|(due, found)| due != found)?;
-        Some(format!("place {k} of {name} must hold {}, not {}", due[k], found[k]))
-    };
-    let words = |numbers: &[usize]| numbers.iter().map(|&number| number as u64).collect::<Vec<u64>>();
-    first("activities", &words(&due.activities), &words(&found.activities))
-        .or_else(|| first("machines", &words(&due.machines), &words(&found.machines)))
-        .or_else(|| first("starts", &due.starts, &found.starts))
-        .or_else(|| first("ends", &due.ends, &found.ends))
-        .or_else(|| first("setups", &due.setups, &found.setups))
 }
 
 // ------------------------------------------------------------------------------------------------------ lines
@@ -410,7 +290,7 @@ fn changed(mut lines: Lines, rng: &mut Rng) -> Lines {
 
 /// Lines as the calls take them; cells outside the lines hold anything, activities among it.
 fn given(lines: &Lines, rng: &mut Rng) -> Given {
-    let cells = CELLS + rng.pick(&[0, 0, 0, 1, 130]);
+    let cells = enough(CELLS, rng);
     let mut given = Given { cells: (0..cells).map(|_| any_cell(rng)).collect(), lens: [0; MACHINES] };
     for (machine, line) in lines.iter().enumerate() {
         given.lens[machine] = line.len();
@@ -477,7 +357,19 @@ fn break_lines(given: &mut Given, plan: &Plan, rng: &mut Rng) -> &'static str {
 
 #[cfg(test)]
 mod tests {
+    use std::collections::BTreeMap;
+
     use super::*;
+    use crate::imitation::{finds, Fault};
+
+    #[test]
+    fn faults_are_found() {
+        let check = |calls: &_| tallies(calls, 96);
+        let rows = [Fault::NoTransports, Fault::NoSetups, Fault::NoPredecessors, Fault::OneRowMore, Fault::LastBit];
+        let lent = [Fault::ShortSetups, Fault::PlaceBehind, Fault::PlaceRefused, Fault::SeesBuffers];
+        let read = [Fault::PlaceOff, Fault::NoStray];
+        finds(check, &[&rows[..], &lent, &read].concat());
+    }
 
     /// The number that lines given are due, 0 where they are timed.
     fn due(plan: &Plan, given: &Given) -> usize {
@@ -507,23 +399,5 @@ mod tests {
         assert!(mild[0] > 300 && mild[8] > 100 && mild[7] == 0, "{mild:?}");
         assert!(shuffled[0] > 50 && shuffled[8] > 300 && shuffled[7] == 0, "{shuffled:?}");
         assert!(broken.len() == 7 && broken.values().all(|&count| count > 30), "{broken:?}");
-    }
-
-    #[test]
-    fn every_place_of_the_buffers_is_looked_at() {
-        let before = buffers([128, 129, 130, 131, 132], &mut Rng::new(2));
-        assert_eq!(differing(&before, &before.clone()), None);
-        let change: [fn(&mut Buffers); 5] = [
-            |buffers| buffers.activities[127] ^= 1,
-            |buffers| buffers.machines[128] ^= 1,
-            |buffers| buffers.starts[129] ^= 1 << 63,
-            |buffers| buffers.ends[0] ^= 1,
-            |buffers| buffers.setups[131] ^= 1,
-        ];
-        for change in change {
-            let mut after = before.clone();
-            change(&mut after);
-            assert!(differing(&before, &after).is_some());
-        }
     }
 }

@@ -3,7 +3,7 @@
 //! that no Rust problem can be.
 
 use crate::answers::{Row, Sheet};
-use crate::plan::{Plan, Times};
+use crate::plan::{Plan, Task, Times};
 use crate::proved::{Given, MACHINES, STRETCH};
 use crate::published::Lines;
 use crate::read::Refused;
@@ -33,32 +33,71 @@ pub fn lines_given(plan: &Plan, given: &Given) -> Result<Lines, Refused> {
 
 /// The lines of the Order and the Assignment; number 7 where they miss an activity.
 pub fn lines_of_order(plan: &Plan) -> Result<Lines, Refused> {
-    let firsts: Vec<usize> = plan
-        .tasks
-        .iter()
-        .scan(0, |sum, task| {
-            let first = *sum;
-            *sum += task.activities as usize;
-            Some(first)
-        })
-        .collect();
-    let mut named = vec![0; plan.tasks.len()];
+    let named = named(plan);
     let mut lines = vec![Vec::new(); plan.transports.len()];
-    for &task in &plan.order {
-        let task = task as usize;
-        // Unknown tasks and surplus namings are dropped.
-        if task >= named.len() || named[task] == plan.tasks[task].activities as usize {
-            continue;
-        }
-        let activity = firsts[task] + named[task];
-        named[task] += 1;
-        let machine = plan.assignment.get(activity).and_then(|&machine| usize::try_from(machine).ok());
-        lines[machine.ok_or(NOT_THE_LINES)?].push(activity);
+    for &activity in &named {
+        lines[machine_of(plan, activity).ok_or(NOT_THE_LINES)?].push(activity);
     }
-    match named.iter().sum::<usize>() == plan.activities.len() {
+    match named.len() == plan.activities.len() {
         true => Ok(lines),
         false => Err(NOT_THE_LINES),
     }
+}
+
+/// The task of each activity.
+pub fn task_of(plan: &Plan) -> Vec<usize> {
+    let tasks = plan.tasks.iter().enumerate();
+    tasks.flat_map(|(number, task)| vec![number; task.activities as usize]).collect()
+}
+
+/// The activities that the Order gives: its k-th naming of a task is the task's k-th activity. Unknown tasks and surplus
+/// namings are dropped.
+pub fn named(plan: &Plan) -> Vec<usize> {
+    let mut left: Vec<Vec<usize>> = vec![Vec::new(); plan.tasks.len()];
+    for (activity, task) in task_of(plan).into_iter().enumerate().rev() {
+        left[task].push(activity);
+    }
+    plan.order.iter().filter_map(|&task| left.get_mut(task as usize)?.pop()).collect()
+}
+
+/// The assigned machine; none for -1 and behind the Assignment's end.
+pub fn machine_of(plan: &Plan, activity: usize) -> Option<usize> {
+    plan.assignment.get(activity).and_then(|&machine| usize::try_from(machine).ok())
+}
+
+/// The entry for machine, category before (8 for none) and own category; without one the activity's own setup.
+pub fn setup_of(plan: &Plan, machine: usize, task_before: Option<usize>, activity: usize, task: usize) -> i64 {
+    let category = |task: usize| plan.tasks[task].category;
+    let key = (machine as u32, task_before.map_or(8, category), category(task));
+    let entry = plan.setups.iter().find(|entry| (entry.machine, entry.previous, entry.category) == key);
+    i64::from(entry.map_or(times_on(plan, activity, machine).setup, |entry| entry.setup))
+}
+
+pub fn times_on(plan: &Plan, activity: usize, machine: usize) -> Times {
+    plan.times[activity * plan.transports.len() + machine]
+}
+
+/// The greater of the task's and the activity's.
+pub fn release_of(plan: &Plan, activity: usize, task: usize) -> i64 {
+    i64::from(plan.tasks[task].release.max(plan.activities[activity]))
+}
+
+/// (1 - w) · makespan + w · total tardiness.
+pub fn fitness_of(plan: &Plan, rows: &[Row]) -> f64 {
+    let mut completions = vec![0; plan.tasks.len()];
+    let task_of = task_of(plan);
+    for row in rows {
+        let completion: &mut i64 = &mut completions[task_of[row.activity]];
+        *completion = row.end.max(*completion);
+    }
+    let late = |(task, &completion): (&Task, &i64)| match task.deadline_flag {
+        1 => (completion - i64::from(task.deadline)).max(0),
+        _ => 0,
+    };
+    let total: i64 = plan.tasks.iter().zip(&completions).map(late).sum();
+    let makespan = completions.iter().copied().max().unwrap_or(0);
+    let weight = f64::from_bits(plan.weight);
+    (1.0 - weight) * makespan as f64 + weight * total as f64
 }
 
 /// The sheet of these lines, rows in timing order; or number 8.
@@ -73,7 +112,7 @@ pub fn time(plan: &Plan, lines: &Lines) -> Result<Sheet, Refused> {
         rows[activity] = Some(shop.row(activity, &rows));
     }
     let rows: Vec<Row> = order.into_iter().filter_map(|activity| rows[activity]).collect();
-    Ok(Sheet { fitness: shop.fitness(&rows).to_bits(), rows })
+    Ok(Sheet { fitness: fitness_of(plan, &rows).to_bits(), rows })
 }
 
 /// A plan with its lines, as each activity sees it.
@@ -92,10 +131,9 @@ struct Shop<'a> {
 impl<'a> Shop<'a> {
     fn new(plan: &'a Plan, lines: &Lines) -> Shop<'a> {
         let n = plan.activities.len();
-        let tasks = plan.tasks.iter().enumerate();
         let mut shop = Shop {
             plan,
-            task: tasks.flat_map(|(number, task)| vec![number; task.activities as usize]).collect(),
+            task: task_of(plan),
             machine: vec![0; n],
             line_before: vec![None; n],
             line_after: vec![None; n],
@@ -153,11 +191,11 @@ impl<'a> Shop<'a> {
     /// The row of an activity whose predecessors of all kinds have theirs.
     fn row(&self, activity: usize, rows: &[Option<Row>]) -> Row {
         let end = |before: usize| rows[before].map_or(0, |row| row.end);
-        let machine = self.machine[activity];
-        let Times { process, teardown, .. } = self.times(activity);
-        let setup = self.setup(activity);
-        let release = self.plan.tasks[self.task[activity]].release.max(self.plan.activities[activity]);
-        let mut start = i64::from(release).max(0);
+        let (machine, task) = (self.machine[activity], self.task[activity]);
+        let Times { process, teardown, .. } = times_on(self.plan, activity, machine);
+        let task_before = self.line_before[activity].map(|before| self.task[before]);
+        let setup = setup_of(self.plan, machine, task_before, activity, task);
+        let mut start = release_of(self.plan, activity, task).max(0);
         if let Some(before) = self.line_before[activity] {
             start = start.max(end(before));
         }
@@ -169,34 +207,6 @@ impl<'a> Shop<'a> {
         }
         let span = setup + i64::from(process) + i64::from(teardown);
         Row { activity, machine, start, end: start + span, setup }
-    }
-
-    fn times(&self, activity: usize) -> Times {
-        self.plan.times[activity * self.plan.transports.len() + self.machine[activity]]
-    }
-
-    /// The entry for machine, category before (8 for none) and own category; without one the activity's own setup.
-    fn setup(&self, activity: usize) -> i64 {
-        let category = |a: usize| self.plan.tasks[self.task[a]].category;
-        let key = (self.machine[activity] as u32, self.line_before[activity].map_or(8, category), category(activity));
-        let entry = self.plan.setups.iter().find(|entry| (entry.machine, entry.previous, entry.category) == key);
-        i64::from(entry.map_or(self.times(activity).setup, |entry| entry.setup))
-    }
-
-    /// (1 - w) · makespan + w · total tardiness.
-    fn fitness(&self, rows: &[Row]) -> f64 {
-        let completion = |task: usize| {
-            rows.iter().filter(|row| self.task[row.activity] == task).map(|row| row.end).max().unwrap_or(0)
-        };
-        let completions: Vec<i64> = (0..self.plan.tasks.len()).map(completion).collect();
-        let late = |(task, &completion): (&crate::plan::Task, &i64)| match task.deadline_flag {
-            1 => (completion - i64::from(task.deadline)).max(0),
-            _ => 0,
-        };
-        let total: i64 = self.plan.tasks.iter().zip(&completions).map(late).sum();
-        let makespan = completions.iter().copied().max().unwrap_or(0);
-        let weight = f64::from_bits(self.plan.weight);
-        (1.0 - weight) * makespan as f64 + weight * total as f64
     }
 }
 

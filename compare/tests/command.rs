@@ -42,7 +42,7 @@ fn said<S: AsRef<OsStr> + std::fmt::Debug>(arguments: &[S], input: &[u8]) -> Str
 #[test]
 fn bad_arguments_are_one_line_and_2() {
     let here = env!("CARGO_MANIFEST_DIR");
-    let bad: [&[&str]; 51] = [
+    let bad: [&[&str]; 65] = [
         &[],
         &["no-such-mode"],
         &[""],
@@ -84,13 +84,27 @@ fn bad_arguments_are_one_line_and_2() {
         &["classes", "1"],
         &["check", "x"],
         &["check", "1", "2"],
+        &["intake-check"],
+        &["intake-check", "1"],
+        &["intake-check", "no/such/program"],
+        &["intake-check", "1", "no/such/program", "argument"],
         &["time-check", "x"],
         &["time-check", "1", "2"],
+        &["decode-check", "x"],
+        &["decode-check", "1", "2"],
+        &["sheet-check", "x"],
+        &["sheet-check", "1", "2"],
+        &["improve-check", "x"],
+        &["improve-check", "1", "2"],
         &["time-bench", "x"],
         &["time-bench", "--only", "rust", "shop-100"],
         &["time-bench", "--only", "rust", "shop-100", "x"],
         &["time-bench", "--only", "neither", "shop-100", "1"],
         &["time-bench", "--only", "rust", "no-such-plan", "1"],
+        &["improve-bench", "x"],
+        &["improve-bench", "--only", "rust", "ft06", "1"],
+        &["decode-bench", "--only", "rust", "ft06"],
+        &["decode-bench", "--only", "rust", "ft06/60", "1"],
         &["store", "/dev/null/x"],
         &["answers-check", "no/such/folder"],
         &["answers-check", here],
@@ -194,14 +208,19 @@ fn one_side_alone_times_as_often_as_it_is_told() {
         assert!(end("1").trim_end().parse::<u64>().is_ok_and(|end| end > 0), "{plan}");
         assert_eq!(end("1"), end("3"));
     }
+    assert_eq!(said(&["decode-bench", "--only", "rust", "ft06", "2"], &[]), "2\n");
+    assert_eq!(said(&["improve-bench", "--only", "rust", "shop-75/60", "2"], &[]), "2\n");
 }
 
 /// The tools that call the proved library say so where it is not linked.
 #[cfg(not(proved))]
 #[test]
 fn without_the_library_it_is_one_line_and_2() {
-    for arguments in [&["time-check"][..], &["time-check", "1"], &["time-bench"]] {
-        is_one_line_and_2(arguments, &[]);
+    let checks = ["time-check", "decode-check", "sheet-check", "improve-check"];
+    for tool in checks.into_iter().chain(["time-bench", "decode-bench", "improve-bench"]) {
+        is_one_line_and_2(&[tool], &[]);
     }
+    is_one_line_and_2(&["time-check", "1"], &[]);
     is_one_line_and_2(&["time-bench", "--only", "proved", "shop-100", "1"], &[]);
+    is_one_line_and_2(&["improve-bench", "--only", "proved", "ft06/60", "1"], &[]);
 }
