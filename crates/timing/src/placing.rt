@@ -45,9 +45,9 @@ pub fn start_after(table: &[usize], a: usize, line: Link, step: Link, way: u64, 
     requires { ⌜ Bound (now table) (now ends) a × Ending (now ends) line × Ending (now ends) step × (way < 2 ^ 32) ⌝ }
     ensures { λ r. ⌜ ((p : Problem) → Tabled p (now (table .entry)) → a < p .n → p .n ≤ 128 → r ≡ startAfter p a line step way (λ q. getD (now (ends .entry)) q 0)) ⌝ }
 {
-    let released = bounds::release_of(table, a);
-    let free = bounds::arrival(line, ends, 0);
     let there = bounds::arrival(step, ends, way);
+    let free = bounds::arrival(line, ends, 0);
+    let released = bounds::release_of(table, a);
     let first = bounds::later(bounds::later(released, free), there);
     after_named(tables::named_by(table, a), ends, first)
 }
