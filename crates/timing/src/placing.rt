@@ -29,12 +29,24 @@ pub fn machine_before(step: Link, machines: &[usize]) -> usize
     machines[q]
 }
 
-// How long an activity takes on a machine after another.
+// How long an activity takes on a machine with its own setup.
+fn own_span(s: &[u8], z: Layout, a: usize, m: usize) -> u64
+    requires { ⌜ Placed z × (a < 2 ^ 16) × (m < 2 ^ 16) ⌝ }
+    ensures { λ r. ⌜ r ≡ spanOf (problemOf (words (now (s .entry))) z) a m (problemOf (words (now (s .entry))) z .setup a m) ⌝ }
+{
+    let t = plan::times_on(s, z, a, m);
+    bounds::span(s, z, a, m, t.setup as u64)
+}
+
+// How long an activity takes on a machine after another. With no Setups entries nothing needs to be looked up.
 pub fn span_after(s: &[u8], z: Layout, table: &[usize], a: usize, m: usize, line: Link) -> u64
     requires { ⌜ Placed z × Accepted (problemOf (words (now s)) z) (genesOf (words (now s)) z) × Tabled (problemOf (words (now s)) z) (now table) ⌝ }
     requires { ⌜ (a < z .activities) × (m < z .machines) × Below (z .activities) (linked line) ⌝ }
     ensures { λ r. ⌜ r ≡ spanOf (problemOf (words (now (s .entry))) z) a m (setupOf (problemOf (words (now (s .entry))) z) a m line) ⌝ }
 {
+    if words::word(s, z.at.setups) == 0 {
+        return own_span(s, z, a, m);
+    }
     let setup = bounds::setup_of(s, z, table, a, m, line);
     bounds::span(s, z, a, m, setup)
 }
