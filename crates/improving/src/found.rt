@@ -1,6 +1,6 @@
 // What a search from timed lines comes to, and how it is told.
 use crate::Answer;
-use crate::steps::search_lines;
+use steps::search_lines;
 use plan::Layout;
 use search::Finish;
 ghost use mathlib.Core.Path.{_≡_};

@@ -1,11 +1,8 @@
 // Improve: the steps of the search one after the other, from the lines of the order.
 mod call;
 mod found;
-mod step;
-mod steps;
 
 pub use call::improve;
-pub use steps::search_lines;
 
 // A refusal's number and place; or the outcomes 10 to 14, with the bits of the best line fitness where there is one.
 pub enum Answer {

@@ -1,6 +1,7 @@
 // The calls for programs in C and Rust. A slice crosses as a pointer and a length, and an answer as numbers.
 mod checked;
 mod decoded;
+mod improved;
 mod timed;
 
 use calls::Answer;

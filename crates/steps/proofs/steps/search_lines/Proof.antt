@@ -10,10 +10,10 @@ use Rattle.lines.specs.Lines.{linesIn}
 use Rattle.trial.proofs.TimeLaws.{fit-of, holds-of}
 use Rattle.moves.proofs.PairLaws.{reads}
 use Rattle.search.specs.Search.{State, Saved, searchedTo}
-use Rattle.improving.proofs.LoopLaws.{next-fits, Number, Going, line-number, first-ahead, all-made, stop-here, allowed-back, well-back, pairs-made, number-made, moved-well, moved-timed, moved-sixteen, ahead-made, well-16, order-known}
+use Rattle.steps.proofs.LoopLaws.{next-fits, Number, Going, line-number, first-ahead, all-made, stop-here, allowed-back, well-back, pairs-made, number-made, moved-well, moved-timed, moved-sixteen, ahead-made, well-16, order-known}
 use borrow.Author.Needs.{needs}
-use Rattle.improving.proofs.steps.search_lines.Statement.{statement}
-use Rattle.improving.proofs.steps.search_lines.Tie as tie
+use Rattle.steps.proofs.steps.search_lines.Statement.{statement}
+use Rattle.steps.proofs.steps.search_lines.Tie as tie
 
 abbrev Inv-loop : tie.InvT-loop
 Inv-loop s z table ways choices limit first cells₀ order₀ starts₀ ends₀ taken₀ begun₀ done₀ tasks₀ machines₀ lengths₀ pairs₀ left₀ sofar₀ until₀ step₀ cells order starts ends taken begun done tasks machines lengths pairs left sofar until step =
