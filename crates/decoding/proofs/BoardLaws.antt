@@ -22,7 +22,7 @@ use Rattle.in_order.proofs.Theorem.{well-placed}
 use Rattle.active.proofs.Theorem.{active-placed}
 use Rattle.decode.proofs.EndLaws.{sheet-ended}
 use Rattle.decode.proofs.Theorem.{well-decoded}
-use Rattle.calls.specs.Outcome.{Outcome, Leaves}
+use Rattle.calls.specs.Outcome.{Leaves}
 use Rattle.decoding.specs.Decoding.{sheetIn, boardSheet}
 use Rattle.decoding.specs.Rule.{ruleOf, Laid}
 use Rattle.decoding.specs.declared.Decoder.{Decoder}

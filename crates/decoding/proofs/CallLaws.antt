@@ -1,7 +1,9 @@
 -- Numbers 1 to 5 of a plan, and else its sheet.
 use Prim.Native.Nat.{ℕ}
 use mathlib.Core.Path.{_≡_, sym, ap, _∙_}
+use mathlib.Core.Bool.{Bool, true, false, not}
 use mathlib.Core.List.{List}
+use Rattle.graph.proofs.BoolLaws.{denied, granted}
 use Rattle.reader.specs.declared.Reading.{Reading}
 use Rattle.reader.specs.declared.Answer.{Answer}
 use Rattle.reader.specs.declared.Answer.the-variants.{Accepted, No}
@@ -19,3 +21,10 @@ module _ (rule : Problem → Genes → Board) (s : List ℕ) {r : Reading} (e : 
   decoded-plan a =
       ap (λ (x : Reading). boardSheet (problemIn s x) (genesIn s x) (rule (problemIn s x) (genesIn s x))) e
       ∙ ap (λ (x : Answer). decodedIf x rule s (takenIn s)) (sym a ∙ ap (λ (x : Reading). x .answer) e)
+
+-- Whether the results have room, as it was tested.
+pub has-room : (room : Bool) {r : Bool} → r ≡ room → not r ≡ false → room ≡ true
+has-room room {r} e h = sym e ∙ granted r h
+
+pub lacks-room : (room : Bool) {r : Bool} → r ≡ room → not r ≡ true → room ≡ false
+lacks-room room {r} e h = sym e ∙ denied r h

@@ -1,16 +1,15 @@
 -- `decoding::decode_by` meets its contract.
-use mathlib.Core.Path.{refl, sym, ap, _∙_}
+use mathlib.Core.Path.{refl, ap, _∙_}
 use mathlib.Core.List.{[]}
 use denote.Ref.{now}
 use Rattle.words.specs.Words.{words}
 use Rattle.plan.specs.Input.{problemOf, genesOf}
-use Rattle.graph.proofs.BoolLaws.{denied, granted}
 use Rattle.calls.specs.Outcome.{answerOf}
 use Rattle.calls.specs.Timing.{roomy}
 use Rattle.calls.proofs.SheetLaws.{six-answer, six-leaves, roomy-on, rows-room, taken-asks, leaves-as}
 use Rattle.decoding.specs.Decoding.{boardSheet, decodedPlan}
 use Rattle.decoding.specs.Rule.{ruleOf}
-use Rattle.decoding.proofs.CallLaws.{not-decoded, decoded-plan}
+use Rattle.decoding.proofs.CallLaws.{not-decoded, decoded-plan, has-room, lacks-room}
 use borrow.Author.Needs.{needs}
 use Rattle.decoding.proofs.decode_by.Statement.{statement}
 use Rattle.decoding.proofs.decode_by.Tie as tie
@@ -39,7 +38,7 @@ returns c =
     let s = now (at .args .s) in
     let rule = ruleOf (at .args .which) in
     let room = roomy (now (at .args .activities)) (now (at .args .machines)) (now (at .args .starts)) (now (at .args .ends)) (now (at .args .setups)) in
-    let b = sym (c .before .rows-fit .ensures) ∙ denied _ (c .if1 .taken) in
+    let b = lacks-room room (c .before .rows-fit .ensures) (c .if1 .taken) in
     (six-answer (decodedPlan rule s) room b, six-leaves (decodedPlan rule s) room b)
 
 table-room-requires : tie.Need-table-room-requires
@@ -75,7 +74,7 @@ returns-2 c =
     let s = now (at .args .s) in
     let rule = ruleOf (at .args .which) in
     let room = roomy (now (at .args .activities)) (now (at .args .machines)) (now (at .args .starts)) (now (at .args .ends)) (now (at .args .setups)) in
-    let e = not-decoded rule s (c .before .before .before .before .take-in .ensures .0) (c .before .answer .given .1) ∙ roomy-on (decodedPlan rule s) room (sym (c .before .before .before .before .before .before .before .before .rows-fit .ensures) ∙ granted _ (c .before .before .before .before .before .before .before .if1 .left)) in
+    let e = not-decoded rule s (c .before .before .before .before .take-in .ensures .0) (c .before .answer .given .1) ∙ roomy-on (decodedPlan rule s) room (has-room room (c .before .before .before .before .before .before .before .before .rows-fit .ensures) (c .before .before .before .before .before .before .before .if1 .left)) in
     (ap answerOf e, leaves-as e (record { activities = refl; machines = refl; starts = refl; ends = refl; setups = refl }))
 
 enum-told : tie.Need-enum-told
@@ -92,7 +91,7 @@ write-placed-requires c κs =
     let at = c .before .before .before .before .before .before .before .before .before .before .before .before .before .before .before .before .before .before .before .before .before .before .before .before .before .before in
     let taken = c .before .before .before .before .before .before .before .before .before .before .take-in .ensures in
     let read = c .before .before .before .before .before .before .before .enum-told .given .1 in
-    (taken-asks (now (at .args .s)) [] (taken .0) (c .before .before .before .before .before .before .layout-of .ensures) read (taken .1 read), rows-room (now (at .args .activities)) (now (at .args .machines)) (now (at .args .starts)) (now (at .args .ends)) (now (at .args .setups)) (sym (c .before .before .before .before .before .before .before .before .before .before .before .before .before .before .rows-fit .ensures) ∙ granted _ (c .before .before .before .before .before .before .before .before .before .before .before .before .before .if1 .left)))
+    (taken-asks (now (at .args .s)) [] (taken .0) (c .before .before .before .before .before .before .layout-of .ensures) read (taken .1 read), rows-room (now (at .args .activities)) (now (at .args .machines)) (now (at .args .starts)) (now (at .args .ends)) (now (at .args .setups)) (has-room (roomy (now (at .args .activities)) (now (at .args .machines)) (now (at .args .starts)) (now (at .args .ends)) (now (at .args .setups))) (c .before .before .before .before .before .before .before .before .before .before .before .before .before .before .rows-fit .ensures) (c .before .before .before .before .before .before .before .before .before .before .before .before .before .if1 .left)))
 
 same-length-11 : tie.Need-same-length-11
 same-length-11 c = search needs
@@ -115,7 +114,7 @@ returns-3 c =
     let s = now (at .args .s) in
     let rule = ruleOf (at .args .which) in
     let room = roomy (now (at .args .activities)) (now (at .args .machines)) (now (at .args .starts)) (now (at .args .ends)) (now (at .args .setups)) in
-    let e = ap (λ z. boardSheet (problemOf (words s) z) (genesOf (words s) z) (rule (problemOf (words s) z) (genesOf (words s) z))) (c .before .before .before .before .before .before .before .before .before .before .before .before .before .before .before .before .before .layout-of .ensures) ∙ decoded-plan rule s (c .before .before .before .before .before .before .before .before .before .before .before .before .before .before .before .before .before .before .before .before .before .take-in .ensures .0) (c .before .before .before .before .before .before .before .before .before .before .before .before .before .before .before .before .before .before .enum-told .given .1) ∙ roomy-on (decodedPlan rule s) room (sym (c .before .before .before .before .before .before .before .before .before .before .before .before .before .before .before .before .before .before .before .before .before .before .before .before .before .rows-fit .ensures) ∙ granted _ (c .before .before .before .before .before .before .before .before .before .before .before .before .before .before .before .before .before .before .before .before .before .before .before .before .if1 .left)) in
+    let e = ap (λ z. boardSheet (problemOf (words s) z) (genesOf (words s) z) (rule (problemOf (words s) z) (genesOf (words s) z))) (c .before .before .before .before .before .before .before .before .before .before .before .before .before .before .before .before .before .layout-of .ensures) ∙ decoded-plan rule s (c .before .before .before .before .before .before .before .before .before .before .before .before .before .before .before .before .before .before .before .before .before .take-in .ensures .0) (c .before .before .before .before .before .before .before .before .before .before .before .before .before .before .before .before .before .before .enum-told .given .1) ∙ roomy-on (decodedPlan rule s) room (has-room room (c .before .before .before .before .before .before .before .before .before .before .before .before .before .before .before .before .before .before .before .before .before .before .before .before .before .rows-fit .ensures) (c .before .before .before .before .before .before .before .before .before .before .before .before .before .before .before .before .before .before .before .before .before .before .before .before .if1 .left)) in
     (c .before .before .before .before .before .before .before .before .before .before .write-placed .ensures .0 ∙ ap answerOf e, leaves-as e (c .before .before .before .before .before .before .before .before .before .before .write-placed .ensures .1))
 
 pub decode-by-spec : {M : Type 1} → statement M
