@@ -1,8 +1,8 @@
 // What a search from timed lines comes to, and how it is told.
 use crate::Answer;
-use steps::search_lines;
 use plan::Layout;
 use search::Finish;
+use steps::search_lines;
 ghost use mathlib.Core.Path.{_≡_};
 ghost use mathlib.Core.Bool.{not};
 ghost use Prim.Native.Nat.{_≤_};
