@@ -7,5 +7,6 @@ pub mod LinkCount
 pub mod OrderTables
 pub mod TurnLaws
 pub mod EndLaws
+pub mod SpanLaws
 pub mod PlacingLaws
 pub mod TimedLaws

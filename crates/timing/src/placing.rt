@@ -3,7 +3,7 @@ use crate::after_named;
 use graph::Link;
 use plan::Layout;
 ghost use mathlib.Core.Path.{_≡_};
-ghost use Prim.Native.Nat.{ℕ, _^_, _≤_, _<_};
+ghost use Prim.Native.Nat.{ℕ, _+_, _^_, _≤_, _<_};
 ghost use lib.ListN.{length, getD};
 ghost use Rattle.words.specs.Words.{words};
 ghost use Rattle.graph.specs.Counting.{Below};
@@ -29,6 +29,39 @@ pub fn machine_before(step: Link, machines: &[usize]) -> usize
     machines[q]
 }
 
+// The sum of three words that follow each other.
+fn sum_words(s: &[u8], first: usize) -> u64
+    requires { ⌜ first < 2 ^ 40 ⌝ }
+    ensures { λ r. ⌜ r ≡ getD (words (now (s .entry))) first 0 + getD (words (now (s .entry))) (first + 1) 0 + getD (words (now (s .entry))) (first + 2) 0 ⌝ }
+{
+    let setup = words::word(s, first) as u64;
+    let process = words::word(s, first + 1) as u64;
+    let teardown = words::word(s, first + 2) as u64;
+    setup + process + teardown
+}
+
+// The same, quicker: of a part that has three words it is tested once, not for each, that they are there.
+fn sum_row(s: &[u8], first: usize) -> u64
+    requires { ⌜ first < 2 ^ 40 ⌝ }
+    ensures { λ r. ⌜ r ≡ getD (words (now (s .entry))) first 0 + getD (words (now (s .entry))) (first + 1) 0 + getD (words (now (s .entry))) (first + 2) 0 ⌝ }
+{
+    let from = 4 * first;
+    let to = from + 12;
+    if s.len() < to {
+        return sum_words(s, first);
+    }
+    sum_words(&s[from..to], 0)
+}
+
+// How long an activity takes on a machine with its own setup.
+fn own_span(s: &[u8], z: Layout, a: usize, m: usize) -> u64
+    requires { ⌜ Placed z × (a < 2 ^ 16) × (m < 2 ^ 16) ⌝ }
+    ensures { λ r. ⌜ r ≡ spanOf (problemOf (words (now (s .entry))) z) a m (problemOf (words (now (s .entry))) z .setup a m) ⌝ }
+{
+    let e = a * z.machines + m;
+    sum_row(s, z.at.times + 1 + 3 * e)
+}
+
 // How long an activity takes on a machine after another.
 pub fn span_after(s: &[u8], z: Layout, table: &[usize], a: usize, m: usize, line: Link) -> u64
     requires { ⌜ Placed z × Accepted (problemOf (words (now s)) z) (genesOf (words (now s)) z) × Tabled (problemOf (words (now s)) z) (now table) ⌝ }
@@ -45,16 +78,15 @@ pub fn start_after(table: &[usize], a: usize, line: Link, step: Link, way: u64, 
     requires { ⌜ Bound (now table) (now ends) a × Ending (now ends) line × Ending (now ends) step × (way < 2 ^ 32) ⌝ }
     ensures { λ r. ⌜ ((p : Problem) → Tabled p (now (table .entry)) → a < p .n → p .n ≤ 128 → r ≡ startAfter p a line step way (λ q. getD (now (ends .entry)) q 0)) ⌝ }
 {
-    let released = bounds::release_of(table, a);
-    let free = bounds::arrival(line, ends, 0);
     let there = bounds::arrival(step, ends, way);
+    let free = bounds::arrival(line, ends, 0);
+    let released = bounds::release_of(table, a);
     let first = bounds::later(bounds::later(released, free), there);
     after_named(tables::named_by(table, a), ends, first)
 }
 
-// Writes the start and the end of every activity, in the timing order of the lines. `before` links each to the one before it on its line,
-// and `machines` has the machine whose line holds it.
-pub fn place(
+// Places every activity, each after the setup of its change.
+fn place_with_setups(
     s: &[u8],
     z: Layout,
     table: &[usize],
@@ -86,6 +118,93 @@ pub fn place(
         ends[a] = start + span;
         i += 1;
     }
+}
+
+// Places every activity, each after its own setup: the same where there are no Setups entries, and quicker.
+fn place_with_own(
+    s: &[u8],
+    z: Layout,
+    table: &[usize],
+    ways: [[u32; 16]; 16],
+    cells: &[usize],
+    lens: [usize; 16],
+    before: &[usize],
+    machines: &[usize],
+    order: &[usize],
+    starts: &mut [u64],
+    ends: &mut [u64],
+)
+    requires { ⌜ Placed z × Accepted (problemOf (words (now s)) z) (genesOf (words (now s)) z) × Tabled (problemOf (words (now s)) z) (now table) × (ways ≡ transportsOf (problemOf (words (now s)) z)) ⌝ }
+    requires { ⌜ WellFormed (z .activities) (z .machines) (linesIn (now cells) lens) × Seated (z .activities) (linesIn (now cells) lens) (now before) (now machines) × Whole (problemOf (words (now s)) z) (linesIn (now cells) lens) (now order) ⌝ }
+    requires { ⌜ (length (now starts) ≡ z .activities) × (length (now ends) ≡ z .activities) ⌝ }
+    requires { ⌜ getD (words (now s)) (z .at .setups) 0 ≡ 0 ⌝ }
+    ensures { λ _. ⌜ Placement (problemOf (words (now (s .entry))) z) (linesIn (now (cells .entry)) lens) (now (starts .exit)) (now (ends .exit)) ⌝ }
+{
+    let mut i = 0;
+    while i < order.len() {
+        let a = order[i];
+        let m = machines[a];
+        let line = graph::link_of(before, a);
+        let step = tables::before_of(table, a);
+        let from = machine_before(step, machines);
+        let way = ways[from][m] as u64;
+        let start = start_after(table, a, line, step, way, ends);
+        let span = own_span(s, z, a, m);
+        starts[a] = start;
+        ends[a] = start + span;
+        i += 1;
+    }
+}
+
+// Writes the start and the end of every activity, in the timing order of the lines. `before` links each to the one before it on its line,
+// and `machines` has the machine whose line holds it.
+pub fn place(
+    s: &[u8],
+    z: Layout,
+    table: &[usize],
+    ways: [[u32; 16]; 16],
+    cells: &[usize],
+    lens: [usize; 16],
+    before: &[usize],
+    machines: &[usize],
+    order: &[usize],
+    starts: &mut [u64],
+    ends: &mut [u64],
+)
+    requires { ⌜ Placed z × Accepted (problemOf (words (now s)) z) (genesOf (words (now s)) z) × Tabled (problemOf (words (now s)) z) (now table) × (ways ≡ transportsOf (problemOf (words (now s)) z)) ⌝ }
+    requires { ⌜ WellFormed (z .activities) (z .machines) (linesIn (now cells) lens) × Seated (z .activities) (linesIn (now cells) lens) (now before) (now machines) × Whole (problemOf (words (now s)) z) (linesIn (now cells) lens) (now order) ⌝ }
+    requires { ⌜ (length (now starts) ≡ z .activities) × (length (now ends) ≡ z .activities) ⌝ }
+    ensures { λ _. ⌜ Placement (problemOf (words (now (s .entry))) z) (linesIn (now (cells .entry)) lens) (now (starts .exit)) (now (ends .exit)) ⌝ }
+{
+    if words::word(s, z.at.setups) == 0 {
+        place_with_own(
+            s,
+            z,
+            table,
+            ways,
+            cells,
+            lens,
+            before,
+            machines,
+            order,
+            starts,
+            ends,
+        );
+        return;
+    }
+    place_with_setups(
+        s,
+        z,
+        table,
+        ways,
+        cells,
+        lens,
+        before,
+        machines,
+        order,
+        starts,
+        ends,
+    );
 }
 
 // Writes the setup of every activity where its line has it.

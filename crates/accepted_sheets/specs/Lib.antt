@@ -1,0 +1,3 @@
+pub mod SheetRows
+pub mod Orderly
+pub mod Complete

@@ -1,0 +1,1 @@
+// No code: what is proved of the decoders' sheets and the sheet check together.

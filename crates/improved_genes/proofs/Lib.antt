@@ -1,0 +1,15 @@
+pub mod FloatLaws
+pub mod TaskCount
+pub mod DealtLaws
+pub mod PathLaws
+pub mod TryingLaws
+pub mod SearchLaws
+pub mod EntryLaws
+pub mod TurnLaws
+pub mod LineTurns
+pub mod SavedLaws
+pub mod RankLaws
+pub mod NextLaws
+pub mod ReassignLaws
+pub mod ReassignTheorem
+pub mod Theorem

@@ -1,0 +1,3 @@
+pub mod Written
+pub mod EveryEntry
+pub mod Reassigned

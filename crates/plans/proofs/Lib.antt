@@ -1,0 +1,4 @@
+pub mod Searched
+pub mod Moves
+pub mod Crossed
+pub mod Theorem

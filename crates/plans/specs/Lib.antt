@@ -1,0 +1,2 @@
+pub mod PlanS
+pub mod Table
