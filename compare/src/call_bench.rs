@@ -40,8 +40,8 @@ impl Work {
     /// What is measured, by name: plans, for Improve each with 60 and with 1,000 steps.
     fn names(self) -> Vec<String> {
         let plans: &[&str] = match self {
-            Work::Improve => &["ft06", "shop-100", "shop-75", "flexible-128", "setups-128"],
-            Work::Decode => &["ft06", "shop-100", "full-128"],
+            Work::Improve => &["ft06", "shop-10-10", "shop-15-5", "flexible-128", "setups-128"],
+            Work::Decode => &["ft06", "shop-10-10", "full-128"],
         };
         match self {
             Work::Improve => plans.iter().flat_map(|name| [format!("{name}/60"), format!("{name}/1000")]).collect(),
@@ -63,8 +63,8 @@ impl Work {
 fn plan_named(name: &str) -> Option<Plan> {
     match name {
         "ft06" => Some(ft06()),
-        "shop-100" => Some(generate::plan(899, Class::JobShop)),
-        "shop-75" => Some(generate::plan(251, Class::JobShop)),
+        "shop-10-10" => Some(generate::plan(899, Class::JobShop)),
+        "shop-15-5" => Some(generate::plan(251, Class::JobShop)),
         "flexible-128" => Some(generate::plan(128, Class::Full)),
         "setups-128" => Some(generate::plan(649, Class::Full)),
         "full-128" => Some(generate::longest_input()),
@@ -241,8 +241,8 @@ mod tests {
     fn the_plans_are_what_they_are_called() {
         let plan = |name: &str| plan_named(name).unwrap_or_else(|| panic!("{name}"));
         let shape = |plan: &Plan| (plan.tasks.len(), plan.transports.len(), plan.activities.len());
-        assert_eq!(shape(&plan("shop-100")), (10, 10, 100));
-        assert_eq!(shape(&plan("shop-75")), (15, 5, 75));
+        assert_eq!(shape(&plan("shop-10-10")), (10, 10, 100));
+        assert_eq!(shape(&plan("shop-15-5")), (15, 5, 75));
         let (flexible, setups) = (plan("flexible-128"), plan("setups-128"));
         assert_eq!((shape(&flexible), flexible.candidates.len()), ((32, 16, 128), 2_048));
         assert!(flexible.setups.is_empty() && flexible.transports.iter().flatten().all(|&time| time == 0));

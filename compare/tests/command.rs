@@ -209,7 +209,7 @@ fn one_side_alone_times_as_often_as_it_is_told() {
         assert_eq!(end("1"), end("3"));
     }
     assert_eq!(said(&["decode-bench", "--only", "rust", "ft06", "2"], &[]), "2\n");
-    assert_eq!(said(&["improve-bench", "--only", "rust", "shop-75/60", "2"], &[]), "2\n");
+    assert_eq!(said(&["improve-bench", "--only", "rust", "shop-15-5/60", "2"], &[]), "2\n");
 }
 
 /// The tools that call the proved library say so where it is not linked.
