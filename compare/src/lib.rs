@@ -7,6 +7,7 @@ extern crate self as u_numflow;
 
 pub mod answers;
 pub mod bench;
+pub mod board;
 pub mod call_bench;
 pub mod check;
 pub mod damage;

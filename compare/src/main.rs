@@ -10,11 +10,11 @@ use compare::call_bench::{self, Work};
 use compare::generate::{self, Class};
 use compare::modes::{answer, Mode};
 use compare::{
-    check, damage, decode_check, improve_check, intake, lines, sheet_check, store, text, time_bench, time_check,
+    board, check, damage, decode_check, improve_check, intake, lines, sheet_check, store, text, time_bench, time_check,
 };
 
 /// Every way to call the tools; the first one stands for all modes.
-const USAGES: [&str; 17] = [
+const USAGES: [&str; 18] = [
     "MODE [INPUT [LINES]]",
     "to-text [INPUT]",
     "from-text [TEXT]",
@@ -32,6 +32,7 @@ const USAGES: [&str; 17] = [
     "improve-bench [--only SIDE PLAN TIMES]",
     "store [FOLDER]",
     "answers-check [FOLDER]",
+    "board",
 ];
 
 /// No file that is read here is longer; an input of document 01 has at most 65,204 bytes.
@@ -138,6 +139,7 @@ fn dispatch(arguments: &[OsString]) -> Result<Said, String> {
         ["store", _] => Ok(store::store(file(1).as_ref())?.into()),
         ["answers-check"] => Ok(store::check(store::FOLDER.as_ref())?.into()),
         ["answers-check", _] => Ok(store::check(file(1).as_ref())?.into()),
+        ["board"] => Ok(board::page()?.into()),
         [] => Err(format!("usage: compare {}", USAGES.join(" | "))),
         [name, rest @ ..] => match (Mode::named(name), USAGES[1..].iter().find(|usage| name_in(usage) == *name)) {
             (Some(mode), _) if rest.len() <= 1 || rest.len() == 2 && mode.takes_lines() => {

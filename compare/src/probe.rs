@@ -66,6 +66,12 @@ impl SchedulingGaProblem {
         })
     }
 
+    /// The estimate of each block move, kept or not.
+    pub(crate) fn estimates(&self, genes: &ScheduleChromosome, lines: &[Vec<usize>]) -> Option<Vec<i64>> {
+        let bench = Bench::new(self, genes, lines)?;
+        Some(bench.moves().1.into_iter().map(|m| bench.estimate(m)).collect())
+    }
+
     /// The search of document 01 around the text's own functions. None where the lines contradict.
     pub(crate) fn replayed(&self, genes: &ScheduleChromosome, lines: &[Vec<usize>]) -> Option<(Improved, Vec<Made>)> {
         let mut bench = Bench::new(self, genes, lines)?;

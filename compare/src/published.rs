@@ -76,6 +76,11 @@ impl Published {
         self.problem.looked_at(&self.genes, lines)
     }
 
+    /// The estimate of each block move of `step`, in its order, kept or not; none where the lines contradict.
+    pub fn estimates(&self, lines: &Lines) -> Option<Vec<i64>> {
+        self.problem.estimates(&self.genes, lines)
+    }
+
     /// Runs the text's `improve` on the genes and says how it ended. `improve` itself returns nothing: 10, 11 and 12
     /// are its three early returns, found by their conditions; 14 is told from 13 by the line fitness of the genes
     /// before and after, since genes are written for a strictly lower one alone.

@@ -116,20 +116,20 @@ pub fn time(plan: &Plan, lines: &Lines) -> Result<Sheet, Refused> {
 }
 
 /// A plan with its lines, as each activity sees it.
-struct Shop<'a> {
+pub(crate) struct Shop<'a> {
     plan: &'a Plan,
-    task: Vec<usize>,
-    machine: Vec<usize>,
-    line_before: Vec<Option<usize>>,
-    line_after: Vec<Option<usize>>,
+    pub(crate) task: Vec<usize>,
+    pub(crate) machine: Vec<usize>,
+    pub(crate) line_before: Vec<Option<usize>>,
+    pub(crate) line_after: Vec<Option<usize>>,
     /// Those it names, as listed.
-    named: Vec<Vec<usize>>,
+    pub(crate) named: Vec<Vec<usize>>,
     /// Those that name it, by rising number, once per naming.
-    waiting: Vec<Vec<usize>>,
+    pub(crate) waiting: Vec<Vec<usize>>,
 }
 
 impl<'a> Shop<'a> {
-    fn new(plan: &'a Plan, lines: &Lines) -> Shop<'a> {
+    pub(crate) fn new(plan: &'a Plan, lines: &Lines) -> Shop<'a> {
         let n = plan.activities.len();
         let mut shop = Shop {
             plan,
@@ -155,11 +155,11 @@ impl<'a> Shop<'a> {
         shop
     }
 
-    fn task_before(&self, activity: usize) -> Option<usize> {
+    pub(crate) fn task_before(&self, activity: usize) -> Option<usize> {
         activity.checked_sub(1).filter(|&before| self.task[before] == self.task[activity])
     }
 
-    fn task_after(&self, activity: usize) -> Option<usize> {
+    pub(crate) fn task_after(&self, activity: usize) -> Option<usize> {
         (self.task.get(activity + 1) == Some(&self.task[activity])).then_some(activity + 1)
     }
 
