@@ -1,6 +1,6 @@
-//! The worked plans of document 01, and some more, for two people who follow them with cards on a board. The figures are
-//! the Rust's answers; what is worked out here on the way (bounds, tails, lengths, blocks, what is forbidden) is held
-//! against them, and the page is refused where they differ.
+//! The worked plans of document 01, and some more, for two people who follow them with cards on a board. The figures
+//! are the Rust's answers; what is worked out here on the way (bounds, tails, lengths, blocks, what is forbidden) is
+//! held against them, and no page is printed where they differ.
 
 use std::ops::Range;
 
@@ -30,36 +30,36 @@ macro_rules! plan_text {
 
 /// What is the same in every step, told once.
 const RULES: [&str; 8] = [
-    "**Timing order.** Pile up the cards that wait for nothing, the lowest number first. Take the top card again and again, \
-     and put on the pile what it frees: its neighbour in the line, then the next step of its task, then those that wait \
-     for it by name, the lowest number first. In the tables the top of the pile is at the right.",
-    "**Starts.** A card starts when all of this is over: the card before it in the line; the step before of its task, with \
-     the way to this machine; the release; every card that it waits for by name. It never starts before 0. It ends after \
-     setup, process and teardown.",
-    "**Critical path.** Begin at the card that ends last; of several, at the latest in timing order. Go back to the card \
-     that held it up: the one before in the line if it ends just then; else the step before of its task if it arrives \
-     just then; else the first card that it waits for by name and that ends just then; else stop.",
-    "**Blocks.** Cards that follow one another on the path and lie side by side on one machine are a block. It gives these \
-     moves: swap the first two; swap the last two; shift a later card to its front, from the third on; shift an earlier \
-     card to its end, up to the third from the end. The same move counts once.",
-    "**Estimates.** Up to three block moves are all tried, as they come. Of more, each is estimated, and the three smallest \
-     are tried, the earlier one among equals. Lay the stretch between the two places anew. For each card in it add three \
-     numbers: when it could start (after the card before it in the line, the step before of its task and its release), what \
-     it took so far, and the longest chain after it (through the next card in the line or the next step of its task). The \
-     greatest sum is the estimate. A chain outside the stretch goes on through line, task and waiting, as the cards lay. \
-     Ways between machines are left out.",
-    "**Other machines.** If any card has a choice, each card of the path may also go to another machine that may run it. The \
-     first place there is after the leading cards that end by its own start; the last place is after the leading cards that \
-     start before its own end. For each place add when it could start, its own time there and the longest chain after it: \
-     the length. Waiting by name counts here; ways between machines and the table of setups do not. The least length is \
-     taken, the lower place among equals. Of all such moves the three with the least length, then the least time, are tried \
-     after the block moves.",
-    "**Trying.** Lay the cards as the move says, time the lines, note the fitness, lay them back. The least fitness wins, \
-     the first among equals, also if it is worse than now. A forbidden move counts only if it is below the best so far. If \
-     no move counts, the search stops.",
-    "**Listing.** A move within a line lists two cards: the one moved (of a swap, the first) and the one at the place where \
-     it goes. No move with these two may be made while they are listed. A card that changes its machine lists the machine \
-     that it left: it may not go back there.",
+    "**Timing order.** Pile up the cards that wait for nothing, the lowest number first. Take the top card again and \
+     again, and put on the pile what it frees: its neighbour in the line, then the next step of its task, then those \
+     that wait for it by name, the lowest number first. In the tables the top of the pile is at the right.",
+    "**Starts.** A card starts when all of this is over: the card before it in the line; the step before of its task, \
+     with the way to this machine; the release; every card that it waits for by name. It never starts before 0. It \
+     ends after setup, process and teardown.",
+    "**Critical path.** Begin at the card that ends last; of several, at the latest in timing order. Go back to the \
+     card that held it up: the one before in the line if it ends just then; else the step before of its task if it \
+     arrives just then; else the first card that it waits for by name and that ends just then; else stop.",
+    "**Blocks.** Cards that follow one another on the path and lie side by side on one machine are a block. It gives \
+     these moves: swap the first two; swap the last two; shift a later card to its front, from the third on; shift an \
+     earlier card to its end, up to the third from the end. The same move counts once.",
+    "**Estimates.** Up to three block moves are all tried, as they come. Of more, each is estimated, and the three \
+     smallest are tried, the earlier one among equals. Lay the stretch between the two places anew. For each card in \
+     it add three numbers: when it could start (after the card before it in the line, the step before of its task and \
+     its release), what it took so far, and the longest chain after it (through the next card in the line or the next \
+     step of its task). The greatest sum is the estimate. A chain outside the stretch goes on through line, task and \
+     waiting, as the cards lay. Ways between machines are left out.",
+    "**Other machines.** If any card has a choice, each card of the path may also go to another machine that may run \
+     it. The first place there is after the leading cards that end by its own start; the last place is after the \
+     leading cards that start before its own end. For each place add when it could start, its own time there and the \
+     longest chain after it: the length. Waiting by name counts here; ways between machines and the table of setups \
+     do not. The least length is taken, the lower place among equals. Of all such moves the three with the least \
+     length, then the least time, are tried after the block moves.",
+    "**Trying.** Lay the cards as the move says, time the lines, note the fitness, lay them back. The least fitness \
+     wins, the first among equals, also if it is worse than now. A forbidden move counts only if it is below the best \
+     so far. If no move counts, the search stops.",
+    "**Listing.** A move within a line lists two cards: the one moved (of a swap, the first) and the one at the place \
+     where it goes. No move with these two may be made while they are listed. A card that changes its machine lists \
+     the machine that it left: it may not go back there.",
 ];
 
 type Said = Result<(), String>;
@@ -84,14 +84,14 @@ pub fn page() -> Result<String, String> {
 fn opening(page: &mut Page) {
     page.text += "# The worked plans on the card board\n\n";
     page.say(
-        "Cut one card for each activity and write its number on it. Draw one row for each machine: that is its line, and \
-         the cards lie in it in the order in which they run. Numbers, places and steps are counted from 0.",
+        "Cut one card for each activity and write its number on it. Draw one row for each machine: that is its line, \
+         and the cards lie in it in the order in which they run. Numbers, places and steps are counted from 0.",
     );
     page.say(
         "This page is the print of `compare/run board`; `sh compare/test` prints it again and compares every letter. \
-         Lines, ends, paths, moves and fitness are the published Rust's answers. The numbers in between are worked out by \
-         the same program, which stops where they do not lead to these answers. The numbers of refusals are the \
-         document's: the Rust has none.",
+         Lines, ends, paths, moves and fitness are the published Rust's answers. The numbers in between are worked \
+         out by the same program, which stops where they do not lead to these answers. The numbers of refusals are \
+         the document's: the Rust has none.",
     );
     page.say(
         "In a bar drawing each letter is one unit of time. A number is the card that runs, `s` is its setup, a dot is \
@@ -169,8 +169,8 @@ fn small_facts(page: &mut Page) -> Said {
     let words = lines::to_bytes(&given);
     page.code(&answer(&p7.to_bytes(), Mode::Time, Some(&words))?);
     page.say(
-        "No card takes any time, so all of them could start at 0 and no bound would be broken. The lines are refused all \
-         the same: what counts is that the arrows go round.",
+        "No card takes any time, so all of them could start at 0 and no bound would be broken. The lines are refused \
+         all the same: what counts is that the arrows go round.",
     );
 
     page.head("P8: tardiness");
@@ -528,8 +528,8 @@ impl Page {
         self.table(&["task", "done at", "deadline", "late by"].map(String::from), &rows);
         let weight = f64::from_bits(plan.weight);
         self.say(&format!(
-            "All is done at {makespan}, late by {total} in sum: (1 - {weight}) x {makespan} + \
-             {weight} x {total} = {}.",
+            "All is done at {makespan}, late by {total} in sum: (1 - {weight}) x {makespan} + {weight} x {total} = \
+             {}.",
             decimal(sheet.fitness)
         ));
         Ok(())
@@ -602,8 +602,9 @@ impl Page {
         self.bars(plan.transports.len(), &in_order.rows);
         self.fitness(plan, &in_order)?;
         self.say(
-            "The active sheet: of the cards that may come next, find the one that could be done first. On its machine, of those \
-             that could start before then, place the one that the order names first. Again and again.",
+            "The active sheet: of the cards that may come next, find the one that could be done first. On its \
+             machine, of those that could start before then, place the one that the order names first. Again and \
+             again.",
         );
         self.bars(plan.transports.len(), &active.rows);
         self.say(&format!("Its fitness: {}.", decimal(active.fitness)));
@@ -949,7 +950,11 @@ impl Page {
                     to.to_string(),
                     first.to_string(),
                     last.to_string(),
-                    if lengths.is_empty() { "no place".to_string() } else { lengths.join("; ") },
+                    if lengths.is_empty() {
+                        "none: the first place lies behind the last".to_string()
+                    } else {
+                        lengths.join("; ")
+                    },
                     best.map_or("no move".to_string(), |pos| format!("place {pos}")),
                 ]);
             }
