@@ -2,7 +2,7 @@
 -- leaves in each lent buffer.
 use Prim.Native.Nat.{ℕ}
 use mathlib.Core.Path.{_≡_}
-use mathlib.Core.List.{List, [], _∷_}
+use mathlib.Core.List.{List}
 use lib.Ieee.{Float, toBits, binary64}
 use Rattle.rows.specs.Rows.{Columns, over}
 use Rattle.calls.specs.declared.Answer.{Answer}
@@ -28,8 +28,3 @@ pub record Leaves (o : Outcome) (a₀ m₀ s₀ e₀ u₀ a m s e u : List ℕ) 
   pub starts : s ≡ left (λ c. c .starts) o s₀
   pub ends : e ≡ left (λ c. c .ends) o e₀
   pub setups : u ≡ left (λ c. c .setups) o u₀
-
--- The answer as three numbers, for callers in C: the number and the place of a refusal, and no fitness; or no refusal, and the fitness' bits.
-abbrev pub codeOf : Answer → List ℕ
-codeOf (Refused number place) = number ∷ place ∷ 0 ∷ []
-codeOf (Rows rows bits) = 0 ∷ 0 ∷ bits ∷ []

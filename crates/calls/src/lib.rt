@@ -1,9 +1,9 @@
-// The public calls. Each tests its own input and asks nothing of its caller.
+// The public calls of timing, and what a call that writes a sheet answers. Each tests its own input and asks nothing of its caller.
 mod again;
-mod exports;
 mod timed;
 
 pub use again::time_again;
+pub use timed::rows_fit;
 pub use timed::time;
 pub use timed::time_order;
 

@@ -16,7 +16,7 @@ ghost use Rattle.calls.specs.Timing.{sheetOf, eightIf, timedLines, timed
 ghost use Rattle.calls.specs.Asked.{Taken};
 
 // Whether each result has 128 places.
-fn rows_fit(a: &[usize], m: &[usize], s: &[u64], e: &[u64], u: &[u64]) -> bool
+pub fn rows_fit(a: &[usize], m: &[usize], s: &[u64], e: &[u64], u: &[u64]) -> bool
     ensures { λ r. ⌜ r ≡ roomy (now (a .entry)) (now (m .entry)) (now (s .entry)) (now (e .entry)) (now (u .entry)) ⌝ }
 {
     if a.len() < 128 {
