@@ -47,11 +47,11 @@ put-none line at h = record { holds = sym (written-none line at h); ends = sym (
 pub put-long : {line₀ text line : List ℕ} {at place : ℕ} → Put line₀ at text line place → length line ≡ length line₀
 put-long {line₀} {text} {line} {at} p = ap length (p .holds) ∙ length-written line₀ at text
 
-pub put-then : {line₀ t line₁ u line₂ : List ℕ} {at next place : ℕ} → at + (length t + length u) ≤ length line₀
+pub put-then : {line₀ t line₁ u line₂ : List ℕ} {at next place : ℕ} → place ≤ length line₀
     → Put line₀ at t line₁ next → Put line₁ next u line₂ place → Put line₀ at (t ++ u) line₂ place
 put-then {line₀} {t} {line₁} {u} {line₂} {at} h p q =
     record {
-      holds = q .holds ∙ ap₂ (λ (l : List ℕ) (i : ℕ). written l i u) (p .holds) (p .ends) ∙ written-append line₀ at t u h;
+      holds = q .holds ∙ ap₂ (λ (l : List ℕ) (i : ℕ). written l i u) (p .holds) (p .ends) ∙ written-append line₀ at t u (omega (arith, p .ends, q .ends));
       ends = omega (arith, q .ends, p .ends, length-append t u);
     }
 

@@ -4,32 +4,22 @@ use Rattle.renewed.proofs.RenewedLaws.{section-put}
 use borrow.Author.Needs.{needs}
 use Rattle.renewed.proofs.put_section.Statement.{statement}
 use Rattle.renewed.proofs.put_section.Tie as tie
-use Rattle.renewed.proofs.put_section.Reads as reads
-use Rattle.renewed.proofs.put_section.Lts as lts
-use Rattle.renewed.proofs.put_words.Reads as put-words-reads
-use Rattle.words.proofs.put_word.Reads as put-word-reads
 
--- src/lib.rt:26:29
 cast-put-word : tie.Need-cast-put-word
 cast-put-word c = search needs
 
--- src/lib.rt:26:5
 put-word-requires : tie.Need-put-word-requires
 put-word-requires c κs = search needs
 
--- src/lib.rt:27:20
 add-put-words : tie.Need-add-put-words
 add-put-words c = search needs
 
--- src/lib.rt:27:5
 put-words-requires : tie.Need-put-words-requires
 put-words-requires c κs = search needs
 
--- src/lib.rt:22:1
 same-length : tie.Need-same-length
 same-length c = search needs
 
--- src/lib.rt:22:1
 returns : tie.Need-returns
 returns c = section-put (now (c .before .before .before .before .before .before .before .before .before .before .args .buf)) (c .before .before .before .before .before .before .before .before .before .before .args .k) (now (c .before .before .before .before .before .before .before .before .before .before .args .numbers)) (c .before .before .before .before .before .before .before .before .before .before .pre) refl refl (c .before .before .before .before .before .before .put-word .ensures) (c .before .before .put-words .ensures)
 

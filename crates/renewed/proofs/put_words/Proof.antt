@@ -7,9 +7,6 @@ use mathlib.Core.Path.{refl}
 use Prim.Native.Nat.{_+_, _-_, _<_}
 use Rattle.renewed.proofs.put_words.Statement.{statement}
 use Rattle.renewed.proofs.put_words.Tie as tie
-use Rattle.renewed.proofs.put_words.Reads as reads
-use Rattle.renewed.proofs.put_words.Lts as lts
-use Rattle.words.proofs.put_word.Reads as put-word-reads
 
 abbrev Inv-loop : tie.InvT-loop
 Inv-loop buf₀ k numbers i₀ buf i = Stored buf₀ k numbers buf i
@@ -17,50 +14,39 @@ Inv-loop buf₀ k numbers i₀ buf i = Stored buf₀ k numbers buf i
 abbrev μ-loop : tie.MeasureT-loop
 μ-loop buf₀ k numbers i₀ buf i = length numbers - i
 
--- src/lib.rt:15:5
 loop-holds : tie.Need-loop-holds Inv-loop μ-loop
 loop-holds c = none-stored (now (c .before .before .args .buf)) (c .before .before .args .k) (now (c .before .before .args .numbers)) (c .before .before .pre)
 
--- src/lib.rt:16:30
 add-put-word : tie.Need-add-put-word Inv-loop μ-loop
 add-put-word c =
     let l = c .before .before .loop .inv in
     let h : c .before .before .before .before .before .args .k + c .before .before .loop .i < length (now (c .before .before .before .before .before .args .buf)) = omega (arith, l .fits, c .before .loop-test .taken) in
     search needs
 
--- src/lib.rt:16:38
 mul-put-word : tie.Need-mul-put-word Inv-loop μ-loop
 mul-put-word c = search needs
 
--- src/lib.rt:16:38
 shared-slice-read-put-word : tie.Need-shared-slice-read-put-word Inv-loop μ-loop
 shared-slice-read-put-word c = search needs
 
--- src/lib.rt:16:37
 cast-put-word : tie.Need-cast-put-word Inv-loop μ-loop
 cast-put-word c = search needs
 
--- src/lib.rt:16:9
 put-word-requires : tie.Need-put-word-requires Inv-loop μ-loop
 put-word-requires c κs = search needs
 
--- src/lib.rt:17:9
 add-i : tie.Need-add-i Inv-loop μ-loop
 add-i c = search needs
 
--- src/lib.rt:15:5
 loop-less : tie.Need-loop-less Inv-loop μ-loop
 loop-less c = search needs
 
--- src/lib.rt:15:5
 loop-again : tie.Need-loop-again Inv-loop μ-loop
 loop-again c = stored-next (c .before .before .before .before .before .before .loop .inv) (c .before .before .before .before .before .loop-test .taken) refl (c .before .before .put-word .ensures)
 
--- src/lib.rt:10:1
 same-length : tie.Need-same-length Inv-loop μ-loop
 same-length c = sized (c .before .loop .inv)
 
--- src/lib.rt:10:1
 returns : tie.Need-returns Inv-loop μ-loop
 returns c = all-stored (c .before .loop .inv) (c .loop-test .left)
 

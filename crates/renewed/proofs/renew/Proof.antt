@@ -4,48 +4,34 @@ use Rattle.renewed.proofs.RenewedLaws.{renewed-put, length-renewed}
 use borrow.Author.Needs.{needs}
 use Rattle.renewed.proofs.renew.Statement.{statement}
 use Rattle.renewed.proofs.renew.Tie as tie
-use Rattle.renewed.proofs.renew.Reads as reads
-use Rattle.renewed.proofs.renew.Lts as lts
-use Rattle.renewed.proofs.put_section.Reads as put-section-reads
-use Rattle.writing.proofs.put_text.Reads as put-text-reads
 
--- src/lib.rt:36:5
 put-text-requires : tie.Need-put-text-requires
 put-text-requires c κs = search needs
 
--- src/lib.rt:37:5
 put-section-requires : tie.Need-put-section-requires
 put-section-requires c κs = search needs
 
--- src/lib.rt:38:16
 add-next : tie.Need-add-next
 add-next c = search needs
 
--- src/lib.rt:38:16
 add-next-2 : tie.Need-add-next-2
 add-next-2 c = search needs
 
--- src/lib.rt:39:5
 put-section-requires-2 : tie.Need-put-section-requires-2
 put-section-requires-2 c κs = search needs
 
--- src/lib.rt:40:10
 add-result : tie.Need-add-result
 add-result c = search needs
 
--- src/lib.rt:40:10
 add-result-2 : tie.Need-add-result-2
 add-result-2 c = search needs
 
--- src/lib.rt:40:5
 mul-result : tie.Need-mul-result
 mul-result c = search needs
 
--- src/lib.rt:31:1
 same-length : tie.Need-same-length
 same-length c = search needs
 
--- src/lib.rt:31:1
 returns : tie.Need-returns
 returns c =
     let at = c .before .before .before .before .before .before .before .before .before .before .before .before .before .before .before .before in
