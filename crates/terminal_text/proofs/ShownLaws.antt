@@ -1,0 +1,154 @@
+-- What is put is what is to be shown, case by case.
+use Prim.Native.Nat.{ℕ, zero, suc, _+_, _*_, _≤_, _<_}
+use mathlib.Core.Path.{_≡_, refl, sym, ap, ap₂, _∙_, subst}
+use mathlib.Core.Bool.{Bool, true, false}
+use mathlib.Core.List.{List, [], _∷_, _++_}
+use native.Mathlib.Nat.{mul-le-mul-right}
+use native.Mathlib.Omega.{arith}
+use lib.Ieee.{Float, toBits, binary64}
+use lib.ListN.{length, take, drop, length-append}
+use Rattle.words.specs.Words.{words}
+use Rattle.words.specs.Text.{written}
+use Rattle.words.proofs.TextLaws.{take-written}
+use Rattle.words.proofs.WordLaws.{length-words}
+use Rattle.reader.specs.Reading.{readAll, no as unread}
+use Rattle.reader.specs.declared.Reading.{Reading}
+use Rattle.reader.specs.declared.Answer.{Answer as ReadersAnswer}
+use Rattle.reader.specs.declared.Answer.the-variants.{Accepted, No}
+use Rattle.plan.specs.Problem.{Problem, Genes}
+use Rattle.plan.specs.Found.{layoutOf}
+use Rattle.plan.specs.Laid.{Laid}
+use Rattle.plan.specs.declared.Layout.{Layout}
+use Rattle.intake.specs.Circle.{closesCircle}
+use Rattle.intake.specs.Intake.{problemIn, genesIn, refusedIf, thenCircle, takenIn}
+use Rattle.intake.specs.Sound.{Sound}
+use Rattle.intake.proofs.TakingLaws.{never-taken}
+use Rattle.intake.proofs.Soundness.{taken-in-means}
+use Rattle.rows.specs.Rows.{Columns, over}
+use Rattle.rows.proofs.RowLaws.{length-gathered}
+use Rattle.board.specs.Board.{Board}
+use Rattle.calls.specs.Outcome.{Outcome, no, sheet, answerOf, Leaves}
+use Rattle.calls.specs.declared.Answer.the-variants.{Refused, Rows}
+use Rattle.calls.proofs.PrefixLaws.{prefix-is}
+use Rattle.decode.specs.Decode.{betterPlacement}
+use Rattle.decoding.specs.Decoding.{decodedIf, decodedPlan, boardSheet}
+use Rattle.writing.specs.Writing.{Put}
+use Rattle.writing.proofs.WritingLaws.{put-as}
+use Rattle.printing.specs.Printing.{sheetText, refusalText}
+use Rattle.terminal_text.specs.Shown.{sheetOr, decodeText}
+
+-- ---- a sheet's columns
+
+-- All five are as long as there are rows.
+pub record Even (rows : ℕ) (c : Columns) : Type 0 where
+  pub activities : length (c .activities) ≡ rows
+  pub machines : length (c .machines) ≡ rows
+  pub starts : length (c .starts) ≡ rows
+  pub ends : length (c .ends) ≡ rows
+  pub setups : length (c .setups) ≡ rows
+
+abbrev pub Columned : Outcome → Type 0
+Columned (no number place) = Unit {0}
+Columned (sheet rows c f) = Even rows c
+
+pub decoded-columned : (rule : Problem → Genes → Board) (s : List ℕ) → Columned (decodedPlan rule s)
+decoded-columned rule s = by-answer (takenIn s .answer)
+  where
+    by-answer : (a : ReadersAnswer) → Columned (decodedIf a rule s (takenIn s))
+    by-answer Accepted =
+        let b = rule (problemIn s (takenIn s)) (genesIn s (takenIn s)) in
+        record { activities = refl; machines = length-gathered _ (b .order); starts = length-gathered _ (b .order); ends = length-gathered _ (b .order); setups = length-gathered _ (b .order) }
+    by-answer (No number place) = tt
+
+-- ---- a refusal, and a sheet
+
+pub refusal-shown : (outcome : ℕ) (o : Outcome) {number place : ℕ} → Refused number place ≡ answerOf o → refusalText number place ≡ sheetOr outcome o
+refusal-shown outcome (no n p) {number} {place} e =
+    let a : number ≡ n = cc in
+    let b : place ≡ p = cc in
+    ap₂ refusalText a b
+refusal-shown outcome (sheet rows c f) e = let z : _≡_ {A = ℕ} 0 1 = cc in absurd (omega arith)
+
+cut : {n rows : ℕ} (column cells : List ℕ) {x : List ℕ} → n ≡ rows → length column ≡ rows → x ≡ over column cells → take n x ≡ column
+cut {n} column cells en el e = ap (take n) e ∙ prefix-is n column (drop (length column) cells) (el ∙ sym en)
+
+pub sheet-shown : (outcome : ℕ) (o : Outcome) {n bits : ℕ} (a₀ m₀ s₀ e₀ u₀ : List ℕ) {a m s e u : List ℕ} → Rows n bits ≡ answerOf o → Columned o → Leaves o a₀ m₀ s₀ e₀ u₀ a m s e u
+    → sheetText outcome bits (take n a) (take n m) (take n s) (take n e) (take n u) ≡ sheetOr outcome o
+sheet-shown outcome (no number place) a₀ m₀ s₀ e₀ u₀ told even left = let z : _≡_ {A = ℕ} 0 1 = cc in absurd (omega arith)
+sheet-shown outcome (sheet rows c f) {n} {bits} a₀ m₀ s₀ e₀ u₀ told even left =
+    let en : n ≡ rows = cc in
+    let eb : bits ≡ toBits binary64 f = cc in
+    let ca = cut (c .activities) a₀ en (even .activities) (left .activities) in
+    let cm = cut (c .machines) m₀ en (even .machines) (left .machines) in
+    let cs = cut (c .starts) s₀ en (even .starts) (left .starts) in
+    let ce = cut (c .ends) e₀ en (even .ends) (left .ends) in
+    let cu = cut (c .setups) u₀ en (even .setups) (left .setups) in
+    rw (eb, ca, cm, cs, ce, cu)
+
+-- As many cells as rows are within a buffer.
+column-room : {n rows : ℕ} (column cells : List ℕ) {x : List ℕ} → n ≡ rows → length column ≡ rows → x ≡ over column cells → n ≤ length x
+column-room column cells {x} en el e = omega (arith, en, el, ap length e, length-append column (drop (length column) cells))
+
+pub sheet-room : (o : Outcome) {n bits : ℕ} (a₀ m₀ s₀ e₀ u₀ : List ℕ) {a m s e u : List ℕ} → Rows n bits ≡ answerOf o → Columned o → Leaves o a₀ m₀ s₀ e₀ u₀ a m s e u
+    → (n ≤ length a) × (n ≤ length m) × (n ≤ length s) × (n ≤ length e) × (n ≤ length u)
+sheet-room (no number place) a₀ m₀ s₀ e₀ u₀ told even left = let z : _≡_ {A = ℕ} 0 1 = cc in absurd (omega arith)
+sheet-room (sheet rows c f) {n} {bits} a₀ m₀ s₀ e₀ u₀ told even left =
+    let en : n ≡ rows = cc in
+    (column-room (c .activities) a₀ en (even .activities) (left .activities),
+      column-room (c .machines) m₀ en (even .machines) (left .machines),
+      column-room (c .starts) s₀ en (even .starts) (left .starts),
+      column-room (c .ends) e₀ en (even .ends) (left .ends),
+      column-room (c .setups) u₀ en (even .setups) (left .setups))
+
+-- ---- a plan that was taken in
+
+-- It was read so.
+pub taken-read : (s : List ℕ) → takenIn s .answer ≡ Accepted → takenIn s ≡ readAll s
+taken-read s t = by-answer (readAll s .answer) t
+  where
+    by-circle : (b : Bool) → refusedIf b (readAll s) .answer ≡ Accepted → refusedIf b (readAll s) ≡ readAll s
+    by-circle true t = let z : _≡_ {A = ℕ} 0 1 = cc in absurd (omega arith)
+    by-circle false t = refl
+
+    by-answer : (a : ReadersAnswer) → thenCircle a s (readAll s) .answer ≡ Accepted → thenCircle a s (readAll s) ≡ readAll s
+    by-answer Accepted t = by-circle (closesCircle (problemIn s (readAll s))) t
+    by-answer (No number place) t = refl
+
+-- The words before its Order section are all there, and with a new Order and Assignment it is still short enough.
+pub record Short (s : List ℕ) (z : Layout) : Type 0 where
+  pub activities : z .activities ≤ 128
+  pub within : 4 * z .at .order ≤ length s
+  pub room : 4 * (z .at .order + 2 + z .activities + z .activities) ≤ 65536
+
+laid-short : (s : List ℕ) (z : Layout) → Laid (words s) z → Short s z
+laid-short s z l =
+    let squares : z .machines * z .machines ≤ 256 = let h = mul-le-mul-right (z .machines) (l .some-machines .1) in omega (arith, h, l .some-machines .1) in
+    let cells : z .activities * z .machines ≤ 2048 = let h = mul-le-mul-right (z .machines) (l .some-activities .1) in omega (arith, h, l .some-machines .1) in
+    let a₁ : z .at .machines ≤ 290 = omega (arith, l .tasks-at, l .activities-at, l .machines-at, l .some-tasks .1, l .some-activities .1) in
+    let a₂ : z .at .candidates ≤ 6692 = omega (arith, a₁, squares, cells, l .times-at, l .candidates-at) in
+    let a₃ : z .at .order ≤ 15916 = omega (arith, a₂, l .setups-at, l .predecessors-at, l .search-at, l .order-at, l .most-candidates, l .most-setups, l .most-predecessors) in
+    let e : z .at .order < length (words s) = omega (arith, l .assignment-at, l .ends) in
+    record {
+      activities = l .some-activities .1;
+      within = omega (arith, e, length-words s);
+      room = omega (arith, a₃, l .some-activities .1);
+    }
+
+pub taken-short : (s : List ℕ) {r : Reading} {z : Layout} → r ≡ takenIn s → r .answer ≡ Accepted → z ≡ layoutOf r → Short s z
+taken-short s {r} e t ez = rw ez (laid-short s (layoutOf r) (taken-in-means s r e t .laid))
+
+module _ (s : List ℕ) {r : Reading} {z : Layout} (t : takenIn s .answer ≡ Accepted) (er : r ≡ readAll s) (ez : z ≡ layoutOf r) where
+  same : r ≡ takenIn s
+  same = er ∙ sym (taken-read s t)
+
+  pub read-short : Short s z
+  read-short = taken-short s same (ap (λ (x : Reading). x .answer) same ∙ t) ez
+
+  pub read-layout : z ≡ layoutOf (takenIn s)
+  read-layout = ez ∙ ap layoutOf same
+
+-- A text put at the start of a buffer is what the buffer then starts with.
+pub first-put : (line text : List ℕ) {bytes : List ℕ} {n : ℕ} → length text ≤ length line → bytes ≡ written line 0 text → n ≡ length text → take n bytes ≡ text
+first-put line text {bytes} {n} h e en =
+    let place : n ≡ 0 + length text = omega (arith, en) in
+    ap₂ (λ (k : ℕ) (b : List ℕ). take k b) place e ∙ take-written line 0 text (omega (arith, h))
