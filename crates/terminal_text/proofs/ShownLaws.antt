@@ -7,6 +7,7 @@ use native.Mathlib.Nat.{mul-le-mul-right}
 use native.Mathlib.Omega.{arith}
 use lib.Ieee.{Float, toBits, binary64}
 use lib.ListN.{length, take, drop, length-append}
+use lib.Seq.{length-take-le}
 use Rattle.words.specs.Words.{words}
 use Rattle.words.specs.Text.{written}
 use Rattle.words.proofs.TextLaws.{take-written}
@@ -35,7 +36,9 @@ use Rattle.decoding.specs.Decoding.{decodedIf, decodedPlan, boardSheet}
 use Rattle.writing.specs.Writing.{Put}
 use Rattle.writing.proofs.WritingLaws.{put-as}
 use Rattle.printing.specs.Printing.{sheetText, refusalText}
-use Rattle.terminal_text.specs.Shown.{sheetOr, decodeText}
+use Rattle.renewed.specs.Renewed.{renewedBytes}
+use Rattle.renewed.proofs.RenewedLaws.{length-renewed}
+use Rattle.terminal_text.specs.Shown.{sheetOr, decodeText, renewedPlan}
 
 -- ---- a sheet's columns
 
@@ -152,3 +155,21 @@ pub first-put : (line text : List ℕ) {bytes : List ℕ} {n : ℕ} → length t
 first-put line text {bytes} {n} h e en =
     let place : n ≡ 0 + length text = omega (arith, en) in
     ap₂ (λ (k : ℕ) (b : List ℕ). take k b) place e ∙ take-written line 0 text (omega (arith, h))
+
+-- ---- the plan with the new order and machines
+
+module _ (s tasks machines : List ℕ) (z : Layout) (short : Short s z) (ht : 128 ≤ length tasks) (hm : 128 ≤ length machines) where
+  abbrev pub bytesNow : List ℕ
+  bytesNow = renewedBytes (take (4 * z .at .order) s) (take (z .activities) tasks) (take (z .activities) machines)
+
+  pub renewed-fits : length bytesNow ≤ 65536
+  renewed-fits =
+      let b = length-take-le (4 * z .at .order) s (short .within) in
+      let t = length-take-le (z .activities) tasks (omega (arith, short .activities, ht)) in
+      let m = length-take-le (z .activities) machines (omega (arith, short .activities, hm)) in
+      let long = length-renewed (z .at .order) (take (4 * z .at .order) s) (take (z .activities) tasks) (take (z .activities) machines) b in
+      let room = short .room in
+      omega (arith, long, t, m, room)
+
+  pub renewed-is : z ≡ layoutOf (takenIn s) → bytesNow ≡ renewedPlan s (take (layoutOf (takenIn s) .activities) tasks) (take (layoutOf (takenIn s) .activities) machines)
+  renewed-is e = ap (λ (x : Layout). renewedBytes (take (4 * x .at .order) s) (take (x .activities) tasks) (take (x .activities) machines)) e

@@ -1,33 +1,25 @@
-use Prim.Native.Nat.{_+_, _*_, _≤_}
-use mathlib.Core.Path.{sym, _∙_}
+use Prim.Native.Nat.{ℕ, _+_, _*_, _≤_}
+use mathlib.Core.Path.{sym, ap, _∙_}
 use native.Mathlib.Omega.{arith}
 use denote.Ref.{now}
-use lib.ListN.{length}
+use lib.ListN.{length, replicate, length-replicate}
 use lib.Seq.{length-take-le}
-use Rattle.terminal_text.proofs.ShownLaws.{read-short}
+use Rattle.terminal_text.proofs.ShownLaws.{read-short, read-layout, first-put, bytesNow, renewed-fits, renewed-is}
+use Rattle.writing.proofs.WritingLaws.{put-as}
+use Rattle.terminal_text.specs.Shown.{decodeText}
 use borrow.Author.Needs.{needs}
 use Rattle.terminal_text.proofs.show_renewed.Statement.{statement}
 use Rattle.terminal_text.proofs.show_renewed.Tie as tie
-use Rattle.terminal_text.proofs.show_renewed.Reads as reads
-use Rattle.terminal_text.proofs.show_renewed.Lts as lts
-use Rattle.plan.proofs.layout_of.Reads as layout-of-reads
-use Rattle.reader.proofs.read.Reads as read-reads
-use Rattle.renewed.proofs.renew.Reads as renew-reads
-use Rattle.terminal_text.proofs.show_sheet.Reads as show-sheet-reads
 
--- src/lib.rt:85:9
 read-requires : tie.Need-read-requires
 read-requires c κs = search needs
 
--- src/lib.rt:86:9
 layout-of-requires : tie.Need-layout-of-requires
 layout-of-requires c κs = search needs
 
--- src/lib.rt:90:30
 slice-aggregate-renew : tie.Need-slice-aggregate-renew
 slice-aggregate-renew c = search needs
 
--- src/lib.rt:90:50
 mul-renew : tie.Need-mul-renew
 mul-renew c =
     let at = c .before .before .before .before .before .before .before in
@@ -36,7 +28,6 @@ mul-renew c =
     let within = short .within in
     search needs
 
--- src/lib.rt:90:45
 slice-aggregate-renew-2 : tie.Need-slice-aggregate-renew-2
 slice-aggregate-renew-2 c =
     let at = c .before .before .before .before .before .before .before .before in
@@ -44,7 +35,6 @@ slice-aggregate-renew-2 c =
     let short = read-short (now (at .args .s)) (at .pre .0) (c .before .before .before .read .ensures) (c .before .before .layout-of .ensures) in
     sym (length-take-le (4 * z .at .order) (now (at .args .s)) (short .within))
 
--- src/lib.rt:90:58
 slice-aggregate-renew-3 : tie.Need-slice-aggregate-renew-3
 slice-aggregate-renew-3 c =
     let at = c .before .before .before .before .before .before .before .before .before in
@@ -52,7 +42,6 @@ slice-aggregate-renew-3 c =
     let short = read-short (now (at .args .s)) (at .pre .0) (c .before .before .before .before .read .ensures) (c .before .before .before .layout-of .ensures) in
     sym (length-take-le (z .activities) (now (at .args .tasks)) (omega (arith, short .activities, at .pre .1)))
 
--- src/lib.rt:90:71
 slice-aggregate-renew-4 : tie.Need-slice-aggregate-renew-4
 slice-aggregate-renew-4 c =
     let at = c .before .before .before .before .before .before .before .before .before .before in
@@ -60,7 +49,6 @@ slice-aggregate-renew-4 c =
     let short = read-short (now (at .args .s)) (at .pre .0) (c .before .before .before .before .before .read .ensures) (c .before .before .before .before .layout-of .ensures) in
     sym (length-take-le (z .activities) (now (at .args .machines)) (omega (arith, short .activities, at .pre .2)))
 
--- src/lib.rt:90:9
 renew-requires : tie.Need-renew-requires
 renew-requires c κs =
     let at = c .before .before .before .before .before .before .before .before .before .before in
@@ -71,25 +59,20 @@ renew-requires c κs =
     let room : 4 * (z .at .order + 2 + z .activities + z .activities) ≤ 65536 = short .room in
     (length-take-le (4 * z .at .order) (now (at .args .s)) (short .within), rw (t, m) room)
 
--- src/lib.rt:91:16
 array-share-prefix-bytes : tie.Need-array-share-prefix-bytes
-array-share-prefix-bytes c = ?
+array-share-prefix-bytes c = let short = read-short (now (c .before .before .before .before .before .before .before .before .before .before .before .before .args .s)) (c .before .before .before .before .before .before .before .before .before .before .before .before .pre .0) (c .before .before .before .before .before .before .before .read .ensures) (c .before .before .before .before .before .before .layout-of .ensures) in let fits = renewed-fits (now (c .before .before .before .before .before .before .before .before .before .before .before .before .args .s)) (now (c .before .before .before .before .before .before .before .before .before .before .before .before .args .tasks)) (now (c .before .before .before .before .before .before .before .before .before .before .before .before .args .machines)) (c .before .before .before .before .before .before .layout-of .result) short (c .before .before .before .before .before .before .before .before .before .before .before .before .pre .1) (c .before .before .before .before .before .before .before .before .before .before .before .before .pre .2) in let long = c .bytes2 .given in let len = c .before .renew .ensures .1 in omega (arith, fits, long, len)
 
--- src/lib.rt:91:16
 slice-aggregate-show-sheet : tie.Need-slice-aggregate-show-sheet
-slice-aggregate-show-sheet c = ?
+slice-aggregate-show-sheet c = let short = read-short (now (c .before .before .before .before .before .before .before .before .before .before .before .before .before .args .s)) (c .before .before .before .before .before .before .before .before .before .before .before .before .before .pre .0) (c .before .before .before .before .before .before .before .before .read .ensures) (c .before .before .before .before .before .before .before .layout-of .ensures) in let fits = renewed-fits (now (c .before .before .before .before .before .before .before .before .before .before .before .before .before .args .s)) (now (c .before .before .before .before .before .before .before .before .before .before .before .before .before .args .tasks)) (now (c .before .before .before .before .before .before .before .before .before .before .before .before .before .args .machines)) (c .before .before .before .before .before .before .before .layout-of .result) short (c .before .before .before .before .before .before .before .before .before .before .before .before .before .pre .1) (c .before .before .before .before .before .before .before .before .before .before .before .before .before .pre .2) in let long = c .before .bytes2 .given in let len = c .before .before .renew .ensures .1 in sym (length-take-le (c .before .before .renew .result) (c .before .before .renew .last .0) (omega (arith, fits, long, len)))
 
--- src/lib.rt:91:5
 show-sheet-requires : tie.Need-show-sheet-requires
 show-sheet-requires c κs = search needs
 
--- src/lib.rt:81:1
 same-length : tie.Need-same-length
 same-length c = search needs
 
--- src/lib.rt:81:1
 returns : tie.Need-returns
-returns c = ?
+returns c = let short = read-short (now (c .before .before .before .before .before .before .before .before .before .before .before .before .before .before .before .before .before .args .s)) (c .before .before .before .before .before .before .before .before .before .before .before .before .before .before .before .before .before .pre .0) (c .before .before .before .before .before .before .before .before .before .before .before .before .read .ensures) (c .before .before .before .before .before .before .before .before .before .before .before .layout-of .ensures) in let fits = renewed-fits (now (c .before .before .before .before .before .before .before .before .before .before .before .before .before .before .before .before .before .args .s)) (now (c .before .before .before .before .before .before .before .before .before .before .before .before .before .before .before .before .before .args .tasks)) (now (c .before .before .before .before .before .before .before .before .before .before .before .before .before .before .before .before .before .args .machines)) (c .before .before .before .before .before .before .before .before .before .before .before .layout-of .result) short (c .before .before .before .before .before .before .before .before .before .before .before .before .before .before .before .before .before .pre .1) (c .before .before .before .before .before .before .before .before .before .before .before .before .before .before .before .before .before .pre .2) in let room = length-replicate {A = ℕ} 65536 0 in put-as (ap (decodeText 14) (first-put (replicate 65536 0) (bytesNow (now (c .before .before .before .before .before .before .before .before .before .before .before .before .before .before .before .before .before .args .s)) (now (c .before .before .before .before .before .before .before .before .before .before .before .before .before .before .before .before .before .args .tasks)) (now (c .before .before .before .before .before .before .before .before .before .before .before .before .before .before .before .before .before .args .machines)) (c .before .before .before .before .before .before .before .before .before .before .before .layout-of .result) short (c .before .before .before .before .before .before .before .before .before .before .before .before .before .before .before .before .before .pre .1) (c .before .before .before .before .before .before .before .before .before .before .before .before .before .before .before .before .before .pre .2)) (omega (arith, fits, room)) (c .before .before .before .before .before .before .renew .ensures .0) (c .before .before .before .before .before .before .renew .ensures .1) ∙ renewed-is (now (c .before .before .before .before .before .before .before .before .before .before .before .before .before .before .before .before .before .args .s)) (now (c .before .before .before .before .before .before .before .before .before .before .before .before .before .before .before .before .before .args .tasks)) (now (c .before .before .before .before .before .before .before .before .before .before .before .before .before .before .before .before .before .args .machines)) (c .before .before .before .before .before .before .before .before .before .before .before .layout-of .result) short (c .before .before .before .before .before .before .before .before .before .before .before .before .before .before .before .before .before .pre .1) (c .before .before .before .before .before .before .before .before .before .before .before .before .before .before .before .before .before .pre .2) (read-layout (now (c .before .before .before .before .before .before .before .before .before .before .before .before .before .before .before .before .before .args .s)) (c .before .before .before .before .before .before .before .before .before .before .before .before .before .before .before .before .before .pre .0) (c .before .before .before .before .before .before .before .before .before .before .before .before .read .ensures) (c .before .before .before .before .before .before .before .before .before .before .before .layout-of .ensures)))) (c .before .before .show-sheet .ensures)
 
 pub show-renewed-spec : {M : Type 1} → statement M
 show-renewed-spec =
