@@ -38,7 +38,13 @@ use Rattle.writing.proofs.WritingLaws.{put-as}
 use Rattle.printing.specs.Printing.{sheetText, refusalText}
 use Rattle.renewed.specs.Renewed.{renewedBytes}
 use Rattle.renewed.proofs.RenewedLaws.{length-renewed}
-use Rattle.terminal_text.specs.Shown.{sheetOr, decodeText, renewedPlan}
+use Rattle.search.specs.Search.{Improved, noSteps, incomplete, contradictory, nothingBetter, improved, improve}
+use Rattle.improving.specs.Improving.{Outcome as Improving, no as refused, came, answerOf as improveAnswer, tasksLeft, machinesLeft, improvedIf, improvedPlan, roomy, improvedIn}
+use Rattle.improving.specs.declared.Answer.the-variants.{NoSteps, Incomplete, Contradictory, NothingBetter, Better}
+use Rattle.improving.specs.declared.Answer.the-variants as improving
+use Rattle.improving.proofs.CallLaws.{roomy-on}
+use Rattle.terminal_text.specs.Shown.{sheetOr, decodeText, renewedPlan, shownIf}
+use Rattle.terminal_text.proofs.SizedLaws.{Named, improve-named}
 
 -- ---- a sheet's columns
 
@@ -173,3 +179,113 @@ module _ (s tasks machines : List ℕ) (z : Layout) (short : Short s z) (ht : 12
 
   pub renewed-is : z ≡ layoutOf (takenIn s) → bytesNow ≡ renewedPlan s (take (layoutOf (takenIn s) .activities) tasks) (take (layoutOf (takenIn s) .activities) machines)
   renewed-is e = ap (λ (x : Layout). renewedBytes (take (4 * x .at .order) s) (take (x .activities) tasks) (take (x .activities) machines)) e
+
+-- ---- Improve's answer, case by case
+
+module _ (s : List ℕ) where
+  pub refused-shown : (o : Improving) {number place : ℕ} → improving.Refused number place ≡ improveAnswer o → refusalText number place ≡ shownIf o s
+  refused-shown (refused a b) {number} {place} e =
+      let x : number ≡ a = cc in let y : place ≡ b = cc in ap₂ refusalText x y
+  refused-shown (came noSteps) {number} {place} e =
+      let z : _≡_ {A = ℕ} 0 1 = cc in absurd (omega arith)
+  refused-shown (came incomplete) {number} {place} e =
+      let z : _≡_ {A = ℕ} 0 1 = cc in absurd (omega arith)
+  refused-shown (came contradictory) {number} {place} e =
+      let z : _≡_ {A = ℕ} 0 1 = cc in absurd (omega arith)
+  refused-shown (came (nothingBetter f)) {number} {place} e =
+      let z : _≡_ {A = ℕ} 0 1 = cc in absurd (omega arith)
+  refused-shown (came (improved f t m)) {number} {place} e =
+      let z : _≡_ {A = ℕ} 0 1 = cc in absurd (omega arith)
+
+  pub ten-shown : (o : Improving) → NoSteps ≡ improveAnswer o → decodeText 10 s ≡ shownIf o s
+  ten-shown (refused a b) e =
+      let z : _≡_ {A = ℕ} 0 1 = cc in absurd (omega arith)
+  ten-shown (came noSteps) e =
+      refl
+  ten-shown (came incomplete) e =
+      let z : _≡_ {A = ℕ} 0 1 = cc in absurd (omega arith)
+  ten-shown (came contradictory) e =
+      let z : _≡_ {A = ℕ} 0 1 = cc in absurd (omega arith)
+  ten-shown (came (nothingBetter f)) e =
+      let z : _≡_ {A = ℕ} 0 1 = cc in absurd (omega arith)
+  ten-shown (came (improved f t m)) e =
+      let z : _≡_ {A = ℕ} 0 1 = cc in absurd (omega arith)
+
+  pub eleven-shown : (o : Improving) → Incomplete ≡ improveAnswer o → decodeText 11 s ≡ shownIf o s
+  eleven-shown (refused a b) e =
+      let z : _≡_ {A = ℕ} 0 1 = cc in absurd (omega arith)
+  eleven-shown (came noSteps) e =
+      let z : _≡_ {A = ℕ} 0 1 = cc in absurd (omega arith)
+  eleven-shown (came incomplete) e =
+      refl
+  eleven-shown (came contradictory) e =
+      let z : _≡_ {A = ℕ} 0 1 = cc in absurd (omega arith)
+  eleven-shown (came (nothingBetter f)) e =
+      let z : _≡_ {A = ℕ} 0 1 = cc in absurd (omega arith)
+  eleven-shown (came (improved f t m)) e =
+      let z : _≡_ {A = ℕ} 0 1 = cc in absurd (omega arith)
+
+  pub twelve-shown : (o : Improving) → Contradictory ≡ improveAnswer o → decodeText 12 s ≡ shownIf o s
+  twelve-shown (refused a b) e =
+      let z : _≡_ {A = ℕ} 0 1 = cc in absurd (omega arith)
+  twelve-shown (came noSteps) e =
+      let z : _≡_ {A = ℕ} 0 1 = cc in absurd (omega arith)
+  twelve-shown (came incomplete) e =
+      let z : _≡_ {A = ℕ} 0 1 = cc in absurd (omega arith)
+  twelve-shown (came contradictory) e =
+      refl
+  twelve-shown (came (nothingBetter f)) e =
+      let z : _≡_ {A = ℕ} 0 1 = cc in absurd (omega arith)
+  twelve-shown (came (improved f t m)) e =
+      let z : _≡_ {A = ℕ} 0 1 = cc in absurd (omega arith)
+
+  pub thirteen-shown : (o : Improving) {bits : ℕ} → NothingBetter bits ≡ improveAnswer o → decodeText 13 s ≡ shownIf o s
+  thirteen-shown (refused a b) {bits} e =
+      let z : _≡_ {A = ℕ} 0 1 = cc in absurd (omega arith)
+  thirteen-shown (came noSteps) {bits} e =
+      let z : _≡_ {A = ℕ} 0 1 = cc in absurd (omega arith)
+  thirteen-shown (came incomplete) {bits} e =
+      let z : _≡_ {A = ℕ} 0 1 = cc in absurd (omega arith)
+  thirteen-shown (came contradictory) {bits} e =
+      let z : _≡_ {A = ℕ} 0 1 = cc in absurd (omega arith)
+  thirteen-shown (came (nothingBetter f)) {bits} e =
+      refl
+  thirteen-shown (came (improved f t m)) {bits} e =
+      let z : _≡_ {A = ℕ} 0 1 = cc in absurd (omega arith)
+
+  abbrev pub Told : Problem → Improving → Type 0
+  Told p (refused a b) = Unit {0}
+  Told p (came i) = Named p i
+
+  pub fourteen-shown : (o : Improving) (p : Problem) → Told p o → {bits : ℕ} → Better bits ≡ improveAnswer o → (tasks₀ machines₀ : List ℕ) {tasks machines : List ℕ} → tasks ≡ tasksLeft o tasks₀ → machines ≡ machinesLeft o machines₀
+      → decodeText 14 (renewedPlan s (take (p .n) tasks) (take (p .n) machines)) ≡ shownIf o s
+  fourteen-shown (refused a b) p named {bits} e tasks₀ machines₀ et em =
+      let z : _≡_ {A = ℕ} 0 1 = cc in absurd (omega arith)
+  fourteen-shown (came noSteps) p named {bits} e tasks₀ machines₀ et em =
+      let z : _≡_ {A = ℕ} 0 1 = cc in absurd (omega arith)
+  fourteen-shown (came incomplete) p named {bits} e tasks₀ machines₀ et em =
+      let z : _≡_ {A = ℕ} 0 1 = cc in absurd (omega arith)
+  fourteen-shown (came contradictory) p named {bits} e tasks₀ machines₀ et em =
+      let z : _≡_ {A = ℕ} 0 1 = cc in absurd (omega arith)
+  fourteen-shown (came (nothingBetter f)) p named {bits} e tasks₀ machines₀ et em =
+      let z : _≡_ {A = ℕ} 0 1 = cc in absurd (omega arith)
+  fourteen-shown (came (improved f t m)) p named {bits} e tasks₀ machines₀ et em =
+      ap₂ (λ (x y : List ℕ). decodeText 14 (renewedPlan s x y)) (cut t tasks₀ refl (named .0) et) (cut m machines₀ refl (named .1) em)
+
+  pub plan-told : Told (problemIn s (takenIn s)) (improvedPlan s)
+  plan-told = by-answer (takenIn s .answer)
+    where
+      by-answer : (a : ReadersAnswer) → Told (problemIn s (takenIn s)) (improvedIf a s (takenIn s))
+      by-answer Accepted = improve-named (problemIn s (takenIn s)) (genesIn s (takenIn s))
+      by-answer (No number place) = tt
+
+  pub better-taken : {bits : ℕ} → Better bits ≡ improveAnswer (improvedPlan s) → takenIn s .answer ≡ Accepted
+  better-taken {bits} e = by-answer (takenIn s .answer) e
+    where
+      by-answer : (a : ReadersAnswer) → Better bits ≡ improveAnswer (improvedIf a s (takenIn s)) → a ≡ Accepted
+      by-answer Accepted e = refl
+      by-answer (No number place) e = let z : _≡_ {A = ℕ} 0 1 = cc in absurd (omega arith)
+
+  -- buffers of the sizes asked for
+  pub plan-in : (cells tasks machines : List ℕ) → length cells ≡ 2048 → length tasks ≡ 128 → length machines ≡ 128 → improvedPlan s ≡ improvedIn s cells tasks machines
+  plan-in cells tasks machines hc ht hm = roomy-on (improvedPlan s) (roomy cells tasks machines) (rw (hc, ht, hm))
