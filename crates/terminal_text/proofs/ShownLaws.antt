@@ -1,10 +1,12 @@
 -- What is put is what is to be shown, case by case.
 use Prim.Native.Nat.{ℕ, zero, suc, _+_, _*_, _≤_, _<_}
 use mathlib.Core.Path.{_≡_, refl, sym, ap, ap₂, _∙_, subst}
-use mathlib.Core.Bool.{Bool, true, false}
+use mathlib.Core.Bool.{Bool, true, false, cond, false≢true}
 use mathlib.Core.List.{List, [], _∷_, _++_}
 use native.Mathlib.Nat.{mul-le-mul-right}
 use native.Mathlib.Omega.{arith}
+use borrow.Author.Tests.{le-leb, lt-leb}
+use lib.Dec.{leb}
 use lib.Ieee.{Float, toBits, binary64}
 use lib.ListN.{length, take, drop, length-append}
 use lib.Seq.{length-take-le}
@@ -43,7 +45,7 @@ use Rattle.improving.specs.Improving.{Outcome as Improving, no as refused, came
 use Rattle.improving.specs.declared.Answer.the-variants.{NoSteps, Incomplete, Contradictory, NothingBetter, Better}
 use Rattle.improving.specs.declared.Answer.the-variants as improving
 use Rattle.improving.proofs.CallLaws.{roomy-on}
-use Rattle.terminal_text.specs.Shown.{sheetOr, decodeText, renewedPlan, shownIf}
+use Rattle.terminal_text.specs.Shown.{sheetOr, decodeText, renewedPlan, shownIf, shown, enough, shownOver, shownLength}
 use Rattle.terminal_text.proofs.SizedLaws.{Named, improve-named}
 
 -- ---- a sheet's columns
@@ -289,3 +291,24 @@ module _ (s : List ℕ) where
   -- buffers of the sizes asked for
   pub plan-in : (cells tasks machines : List ℕ) → length cells ≡ 2048 → length tasks ≡ 128 → length machines ≡ 128 → improvedPlan s ≡ improvedIn s cells tasks machines
   plan-in cells tasks machines hc ht hm = roomy-on (improvedPlan s) (roomy cells tasks machines) (rw (hc, ht, hm))
+
+-- ---- room for the text
+
+cond-true : {A : Type 0} (b : Bool) (x y : A) → b ≡ true → x ≡ cond b x y
+cond-true true x y e = refl
+cond-true false x y e = absurd (false≢true e)
+
+cond-false : {A : Type 0} (b : Bool) (x y : A) → b ≡ false → y ≡ cond b x y
+cond-false true x y e = absurd (false≢true (sym e))
+cond-false false x y e = refl
+
+pub shown-put : (s out : List ℕ) {line : List ℕ} {place : ℕ} → enough ≤ length out → Put out 0 (shown s) line place → (line ≡ shownOver s out) × (place ≡ shownLength s out)
+shown-put s out h p =
+    let b = le-leb 16384 (length out) h in
+    let z : 0 + length (shown s) ≡ length (shown s) = omega arith in
+    (p .holds ∙ cond-true (leb 16384 (length out)) (written out 0 (shown s)) out b, p .ends ∙ z ∙ cond-true (leb 16384 (length out)) (length (shown s)) 0 b)
+
+pub not-shown : (s out : List ℕ) → length out < enough → (out ≡ shownOver s out) × (0 ≡ shownLength s out)
+not-shown s out h =
+    let b = lt-leb 16384 (length out) h in
+    (cond-false (leb 16384 (length out)) (written out 0 (shown s)) out b, cond-false (leb 16384 (length out)) (length (shown s)) 0 b)
