@@ -104,12 +104,13 @@ pub sheet-room : (o : Outcome) {n bits : ℕ} (a₀ m₀ s₀ e₀ u₀ : List �
     → (n ≤ length a) × (n ≤ length m) × (n ≤ length s) × (n ≤ length e) × (n ≤ length u)
 sheet-room (no number place) a₀ m₀ s₀ e₀ u₀ told even left = let z : _≡_ {A = ℕ} 0 1 = cc in absurd (omega arith)
 sheet-room (sheet rows c f) {n} {bits} a₀ m₀ s₀ e₀ u₀ told even left =
-    let en : n ≡ rows = cc in
-    (column-room (c .activities) a₀ en (even .activities) (left .activities),
+    let en : n ≡ rows = cc in (
+      column-room (c .activities) a₀ en (even .activities) (left .activities),
       column-room (c .machines) m₀ en (even .machines) (left .machines),
       column-room (c .starts) s₀ en (even .starts) (left .starts),
       column-room (c .ends) e₀ en (even .ends) (left .ends),
-      column-room (c .setups) u₀ en (even .setups) (left .setups))
+      column-room (c .setups) u₀ en (even .setups) (left .setups),
+    )
 
 -- ---- a plan that was taken in
 
