@@ -1,0 +1,2 @@
+pub mod SizedLaws
+pub mod ShownLaws
