@@ -20,8 +20,8 @@ ghost use Rattle.trial.specs.Trial.{Ready, Kept, lineFitness};
 ghost use Rattle.search.specs.Asked.{Lined};
 ghost use Rattle.search.specs.Search.{savedOf, searchedTo};
 
-// Makes at most so many steps from timed lines, whose fitness is `first`. The lines, their timing and the three buffers behind it are as the last
-// step leaves them; tasks and machines are those of the best, where it is below the first.
+// Makes at most so many steps from timed lines, whose fitness is `first`. Tasks and machines are those of the best, where it is below the first;
+// the lines, their timing and the three buffers behind it are work space.
 pub fn search_lines(
     s: &[u8],
     z: Layout,
