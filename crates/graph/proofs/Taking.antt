@@ -5,8 +5,8 @@ use mathlib.Core.Logic.{⊎-elim}
 use Prim.Native.Nat.{ℕ, zero, suc, _+_, _-_, _≤_, _<_}
 use native.Mathlib.Numerals.{add-one}
 use native.Mathlib.Omega.{arith}
-use lib.ListN.{length, getD, set, take, length-set}
-use lib.Seq.{take-suc-set, append-snoc}
+use lib.ListN.{length, getD, set, take, length-set, length-append}
+use lib.Seq.{take-suc-set, append-snoc, length-take-le}
 use Rattle.graph.specs.Order.{State, freeAll, orderFrom}
 use Rattle.graph.specs.Run.{stackOf, stateOf, Safe, SafeRun}
 use Rattle.graph.proofs.CountingLaws.{same?}
@@ -20,6 +20,10 @@ pub record Taking (n : ℕ) (succs : ℕ → List ℕ) (c₀ s₀ : List ℕ) (t
   pub fits : top ≤ length s₀
   pub safe : SafeRun n succs (length o₀ - k) c (stackOf s top) (length s₀)
   pub rest : take k o ++ orderFrom succs (length o₀ - k) c (stackOf s top) ≡ orderFrom succs (length o₀) c₀ (stackOf s₀ top₀)
+
+at-end : (l r : List ℕ) (x : ℕ) → getD (l ++ (x ∷ r)) (length l) 0 ≡ x
+at-end [] r x = refl
+at-end (y ∷ l) r x = at-end l r x
 
 dry : (n : ℕ) (succs : ℕ → List ℕ) (most : ℕ) (c s : List ℕ) (top room : ℕ) → most ≡ 0 → 0 < top → SafeRun n succs most c (stackOf s top) room → ⊥
 unfolding SafeRun
@@ -56,6 +60,17 @@ module _ {n : ℕ} {succs : ℕ → List ℕ} {c₀ s₀ : List ℕ} {top₀ : �
 
       opened : SafeRun n succs (suc (length o₀ - (k + 1))) c (getD s (top - 1) 0 ∷ stackOf s (top - 1)) (length s₀)
       opened = rw (one-less, stackOf-pop s top h) at (w .safe)
+
+      -- it is the next of the whole order
+      pub take-next : (getD (orderFrom succs (length o₀) c₀ (stackOf s₀ top₀)) k 0 ≡ getD s (top - 1) 0) × (k < length (orderFrom succs (length o₀) c₀ (stackOf s₀ top₀)))
+      unfolding orderFrom
+      take-next = behind (take k o) _ (length-take-le k o (omega (arith, w .within, w .orderly))) (rw (one-less, stackOf-pop s top h) at (w .rest))
+        where
+          behind : (l r : List ℕ) {x : ℕ} {m : List ℕ} → length l ≡ k → l ++ (x ∷ r) ≡ m → (getD m k 0 ≡ x) × (k < length m)
+          behind l r {x} {m} e q =
+              let z = length-append l (x ∷ r) in
+              let y = ap length q in
+              (sym (ap (λ (y : List ℕ). getD y k 0) q) ∙ ap (λ (j : ℕ). getD (l ++ (x ∷ r)) j 0) (sym e) ∙ at-end l r x, omega arith)
 
       -- what `release` asks
       pub take-known : getD s (top - 1) 0 < n

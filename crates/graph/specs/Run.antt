@@ -1,5 +1,5 @@
 -- How two arrays hold the state of the timing order, and what the code needs of the run that the rules make: no count of 0 is lowered,
--- the stack stays within its room, and only activities are taken. Seen by this crate's own functions alone.
+-- the stack stays within its room, and only activities are taken.
 use mathlib.Core.Path.{_≡_}
 use mathlib.Core.List.{List, [], _∷_}
 use Prim.Native.Nat.{ℕ, zero, suc, _≤_, _<_}

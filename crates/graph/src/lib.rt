@@ -92,7 +92,7 @@ fn release_naming(
 }
 
 // Frees a's line successor, its task successor, then those that name it.
-fn release(
+pub fn release(
     a: usize,
     line: &[usize],
     task: &[usize],
@@ -112,7 +112,7 @@ fn release(
 }
 
 // Stacks those that wait for nothing, the lowest number first.
-fn stack_free(counts: &[usize], stack: &mut [usize]) -> usize
+pub fn stack_free(counts: &[usize], stack: &mut [usize]) -> usize
     requires { ⌜ length (now counts) ≤ length (now stack) ⌝ }
     ensures { λ r. ⌜ (stackOf (now (stack .exit)) r ≡ stackFree (now (counts .entry)) (length (now (counts .entry))) 0 []) × (r ≤ length (now (counts .entry))) ⌝ }
 {

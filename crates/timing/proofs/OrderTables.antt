@@ -5,9 +5,11 @@ use mathlib.Core.List.{List, _++_}
 use native.Mathlib.Omega.{arith}
 use lib.ListN.{length, getD, take, drop, length-append, length-take, length-drop}
 use lib.Seq.{ext-getD, length-take-le}
-use Rattle.graph.specs.Order.{orderOf}
+use Rattle.graph.specs.Order.{orderOf, orderFrom}
+use Rattle.graph.specs.Run.{stackOf, SafeRun}
 use Rattle.graph.specs.Links.{linked, linkOf, partOf, succsOf, Shaped, Linked}
 use Rattle.graph.proofs.Holding.{Holds, holds-linked, holds-order}
+use Rattle.graph.proofs.LinkedLaws.{safe-now, order-now}
 use Rattle.graph.proofs.ShopTheorem.{graph}
 use Rattle.plan.specs.Problem.{Problem, Genes}
 use Rattle.plan.specs.Accepted.{Accepted}
@@ -17,7 +19,7 @@ use Rattle.intake.proofs.BareShop.{each-at, length-each}
 use Rattle.intake.proofs.CircleTables.{part-cell, part-long, few, by-task, length-nexts, length-waits}
 use Rattle.lines.specs.Lines.{Lines, WellFormed, linePred}
 use Rattle.timing.specs.Timing.{frees, waitsFor, countsFor, timingOrder}
-use Rattle.timing.specs.Ordering.{withLine, Neighbours}
+use Rattle.timing.specs.Ordering.{withLine, Neighbours, Stacked}
 use Rattle.timing.proofs.CountLaws.{with-length, with-at}
 use Rattle.timing.proofs.LinkCount.{link-length}
 use Rattle.timing.proofs.LinesShop.{shop}
@@ -96,3 +98,21 @@ module _ (p : Problem) (g : Genes) (ok : Accepted p g) {table : List ℕ} (t : T
 
       pub order-answered : {o : List ℕ} → o ≡ orderOf (succsOf after (take k (drop 128 table)) (waitingAt table) (waiting table)) m held → o ≡ timingOrder p lines
       order-answered e = (rw (em, ek, held-is) at e) ∙ order-is
+
+-- ---- the run from a filled stack
+
+module _ {p : Problem} {lines : Lines} {after nexts at waiting counts stack : List ℕ} {top : ℕ} (st : Stacked p lines after nexts at waiting counts stack top) (m : ℕ) (sized : m ≡ p .n) where
+  pub stacked-safe : SafeRun (length after) (succsOf after nexts at waiting) m counts (stackOf stack top) (length stack)
+  stacked-safe =
+      rw sized (safe-now (st .linked) (st .free) (length stack) (st .roomy))
+
+  pub whole-order : {o : List ℕ} → o ≡ orderFrom (succsOf after nexts at waiting) m counts (stackOf stack top) → o ≡ timingOrder p lines
+  whole-order e = e ∙ rw sized (order-now (st .linked) (st .free)) ∙ st .ordered
+
+  pub on-order : {k a : ℕ} → (getD (orderFrom (succsOf after nexts at waiting) m counts (stackOf stack top)) k 0 ≡ a) × (k < length (orderFrom (succsOf after nexts at waiting) m counts (stackOf stack top)))
+      → (getD (timingOrder p lines) k 0 ≡ a) × (k < length (timingOrder p lines))
+  on-order e = rw (whole-order refl) at e
+
+-- An order that has a place for each takes all of them, or fewer.
+pub whole-taken : (p : Problem) (lines : Lines) (order : List ℕ) (r : ℕ) → take r order ≡ timingOrder p lines → length order ≡ p .n → p .n ≤ r → r ≤ p .n → length (timingOrder p lines) ≡ p .n
+whole-taken p lines order r e sized h k = ap length (sym e) ∙ length-take-le r order (omega arith) ∙ omega arith

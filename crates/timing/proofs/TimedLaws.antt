@@ -4,8 +4,8 @@ use mathlib.Core.Path.{_≡_, refl, sym, ap, ap₂, _∙_}
 use mathlib.Core.Bool.{Bool, true, false, not}
 use mathlib.Core.List.{List}
 use native.Mathlib.Omega.{arith}
-use borrow.Author.Tests.{lt-ltb, le-ltb}
-use lib.Dec.{ltb}
+use borrow.Author.Tests.{ltb-true, ltb-false, leb-true, lt-leb, le-leb}
+use lib.Dec.{ltb, leb}
 use lib.ListN.{length, getD, take, set, length-set}
 use lib.Seq.{take-all, length-take-le, ext-getD, getD-set-same, getD-set-other}
 use Rattle.graph.specs.Links.{linkOf}
@@ -23,7 +23,7 @@ use Rattle.lines.proofs.LineLaws.{pred-below as line-pred-below}
 use Rattle.intake.proofs.BareShop.{each-at, length-each}
 use Rattle.timing.specs.Timing.{timingOrder, contradicts, setupAt, setupsOf}
 use Rattle.timing.specs.Ordering.{Neighbours}
-use Rattle.timing.specs.Placing.{Seated, Whole}
+use Rattle.timing.specs.Placing.{Seated, Whole, Placement, Timed}
 
 module _ {n : ℕ} {lines : Lines} {before after machines places : List ℕ} (held : LinesHeld n lines (linksOf before after machines places)) where
   whole-link : (links : List ℕ) → length links ≡ n → (a : ℕ) → linkOf (take n links) a ≡ linkOf links a
@@ -52,14 +52,22 @@ module _ (p : Problem) (lines : Lines) (order : List ℕ) {r : ℕ} (e : take r 
   taken h = ap length (sym e) ∙ length-take-le r order (omega arith)
 
   -- An order that leaves one out is that of lines that contradict.
-  pub short-contradicts : r < p .n → false ≡ not (contradicts p lines)
-  short-contradicts h = ap not (sym (lt-ltb (length (timingOrder p lines)) (p .n) (omega (arith, taken (omega arith)))))
+  pub agrees-when : r ≤ p .n → leb (p .n) r ≡ not (contradicts p lines)
+  agrees-when h = not-less (p .n) r ∙ ap (λ (k : ℕ). not (ltb k (p .n))) (sym (taken h))
+    where
+      not-less : (n r : ℕ) → leb n r ≡ not (ltb r n)
+      not-less n r =
+          either-way (ltb r n) refl
+        where
+          either-way : (b : Bool) → ltb r n ≡ b → leb n r ≡ not (ltb r n)
+          either-way true e = lt-leb n r (ltb-true r n e) ∙ ap not (sym e)
+          either-way false e = le-leb n r (ltb-false r n e) ∙ ap not (sym e)
 
-  pub full-agrees : p .n ≤ r → r ≤ p .n → true ≡ not (contradicts p lines)
-  full-agrees h k = ap not (sym (le-ltb (length (timingOrder p lines)) (p .n) (omega (arith, taken k))))
-
-  pub full-whole : p .n ≤ r → Whole p lines order
-  full-whole h = record { is = sym (take-all r order (omega arith)) ∙ e; all = sized }
+  -- Else each has its start and its end.
+  pub timed-when : {starts ends : List ℕ} → (p .n ≤ r → Placement p lines starts ends) → leb (p .n) r ≡ true → Timed p lines order starts ends
+  timed-when placed h =
+      let all : p .n ≤ r = leb-true (p .n) r h in
+      record { whole = record { is = sym (take-all r order (omega arith)) ∙ e; all = sized }; placement = placed all }
 
 -- ---- setups, filled one after the other
 

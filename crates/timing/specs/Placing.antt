@@ -10,6 +10,8 @@ use Rattle.graph.specs.declared.Link.{Link}
 use Rattle.graph.specs.declared.Link.the-variants.{To, Nothing}
 use Rattle.plan.specs.Problem.{Problem}
 use Rattle.tables.specs.Found.{Held}
+use Rattle.tables.specs.Tabled.{taskPred}
+use Rattle.bounds.specs.Bounds.{setupOf, spanOf}
 use Rattle.lines.specs.Lines.{Lines, linePred, machineOf}
 use Rattle.timing.specs.Timing.{timingOrder, startsOf, endsOf}
 
@@ -27,6 +29,30 @@ startAfter p a line step way ends =
 pub record Ending (ends : List ℕ) (link : Link) : Type 0 where
   pub known : Below (length ends) (linked link)
   pub small : (t : ℕ) → link ≡ To t → getD ends t 0 < 2 ^ 62
+
+-- The start and the end of an activity by what is known of the others: who stands before it on its line, the machines, and the ends so far.
+abbrev pub startNow : Problem → (before machines ends : List ℕ) → (activity : ℕ) → ℕ
+startNow p before machines ends a =
+    startAfter p a (linkOf before a) (taskPred p a) (p .transport (machineBefore (taskPred p a) (λ q. getD machines q 0)) (getD machines a 0)) (λ q. getD ends q 0)
+
+abbrev pub spanNow : Problem → (before machines : List ℕ) → (activity : ℕ) → ℕ
+spanNow p before machines a = spanOf p a (getD machines a 0) (setupOf p a (getD machines a 0) (linkOf before a))
+
+abbrev pub endNow : Problem → (before machines ends : List ℕ) → (activity : ℕ) → ℕ
+endNow p before machines ends a = startNow p before machines ends a + spanNow p before machines a
+
+-- All that the placing of an activity looks at is there and can be reckoned with.
+pub record Placeable (p : Problem) (before machines starts ends : List ℕ) (a : ℕ) : Type 0 where
+  pub known : a < p .n
+  pub length-before : length before ≡ p .n
+  pub length-machines : length machines ≡ p .n
+  pub length-starts : length starts ≡ p .n
+  pub length-ends : length ends ≡ p .n
+  pub on : getD machines a 0 < p .machines
+  pub from : machineBefore (taskPred p a) (λ q. getD machines q 0) < p .machines
+  pub line : Ending ends (linkOf before a)
+  pub step : Ending ends (taskPred p a)
+  pub small : endNow p before machines ends a < 2 ^ 62
 
 -- The table holds some problem that has the activity, and there is an end for each that it names.
 pub record Bound (table ends : List ℕ) (a : ℕ) : Type 0 where

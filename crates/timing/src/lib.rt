@@ -3,7 +3,6 @@ mod placing;
 
 pub use placing::fill_setups;
 pub use placing::machine_before;
-pub use placing::place;
 pub use placing::span_after;
 pub use placing::start_after;
 ghost use mathlib.Core.Path.{_≡_};
@@ -18,13 +17,14 @@ ghost use Rattle.plan.specs.Accepted.{Accepted};
 ghost use Rattle.tables.specs.Tabled.{Tabled};
 ghost use Rattle.lines.specs.Lines.{linesIn, WellFormed};
 ghost use Rattle.timing.specs.Timing.{timingOrder};
-ghost use Rattle.timing.specs.Ordering.{withLine, Neighbours, Space};
+ghost use Rattle.timing.specs.Ordering.{withLine, Neighbours, Space, Stacked};
 ghost use mathlib.Core.Bool.{true, not};
 ghost use Rattle.plan.specs.Found.{Placed, transportsOf};
 ghost use Rattle.lines.specs.Linking.{LinesHeld, linksOf};
 ghost use Rattle.timing.specs.Timing.{contradicts};
-ghost use Rattle.timing.specs.Placing.{Timed, Rooms};
+ghost use Rattle.timing.specs.Placing.{Seated, Placement, Timed, Rooms};
 use graph::Link;
+use placing::place;
 use plan::Layout;
 
 // The latest of a moment and of the ends of all that are named.
@@ -68,75 +68,148 @@ fn line_waits(before: &[usize], a: usize) -> usize
     1
 }
 
-// Writes the timing order of the lines and answers how many activities it names: fewer than there are where the lines contradict.
-// `before` and `after` link each activity to its neighbours on its line; counts, stack and order are work space.
-fn order_lines(
+// Takes from the stack until it is empty: writes each activity taken into the order, places it, and frees those that wait for it. When it is
+// taken, all that it waits for have their ends. Answers how many are taken: fewer than there are where the lines contradict.
+fn take_and_place(
     s: &[u8],
     z: Layout,
     table: &[usize],
+    ways: &[[u32; 16]; 16],
+    own: bool,
     cells: &[usize],
-    lens: [usize; 16],
+    lens: &[usize; 16],
     before: &[usize],
     after: &[usize],
+    nexts: &[usize],
+    at: &[usize],
+    waiting: &[usize],
+    machines: &[usize],
+    counts: &mut [usize],
+    stack: &mut [usize],
+    first: usize,
+    order: &mut [usize],
+    starts: &mut [u64],
+    ends: &mut [u64],
+) -> usize
+    requires { ⌜ Placed z × Accepted (problemOf (words (now s)) z) (genesOf (words (now s)) z) × Tabled (problemOf (words (now s)) z) (now table) × (own ≡ true → getD (words (now s)) (z .at .setups) 0 ≡ 0) × (now ways ≡ transportsOf (problemOf (words (now s)) z)) ⌝ }
+    requires { ⌜ WellFormed (z .activities) (z .machines) (linesIn (now cells) (now lens)) × Seated (z .activities) (linesIn (now cells) (now lens)) (now before) (now machines) ⌝ }
+    requires { ⌜ Stacked (problemOf (words (now s)) z) (linesIn (now cells) (now lens)) (now after) (now nexts) (now at) (now waiting) (now counts) (now stack) first ⌝ }
+    requires { ⌜ (length (now order) ≡ z .activities) × (length (now starts) ≡ z .activities) × (length (now ends) ≡ z .activities) ⌝ }
+    ensures { λ r. ⌜ (take r (now (order .exit)) ≡ timingOrder (problemOf (words (now (s .entry))) z) (linesIn (now (cells .entry)) (now (lens .entry)))) × (r ≤ z .activities) ⌝ }
+    ensures { λ r. ⌜ (z .activities ≤ r → Placement (problemOf (words (now (s .entry))) z) (linesIn (now (cells .entry)) (now (lens .entry))) (now (starts .exit)) (now (ends .exit))) ⌝ }
+{
+    let mut top = first;
+    let mut taken = 0;
+    while 0 < top {
+        top -= 1;
+        let a = stack[top];
+        order[taken] = a;
+        taken += 1;
+        place(s, z, table, ways, own, before, machines, a, starts, ends);
+        top = graph::release(a, after, nexts, at, waiting, counts, stack, top);
+    }
+    taken
+}
+
+// Orders and places, with work space lent: counts, stack.
+fn order_and_place(
+    s: &[u8],
+    z: Layout,
+    table: &[usize],
+    ways: &[[u32; 16]; 16],
+    cells: &[usize],
+    lens: &[usize; 16],
+    before: &[usize],
+    after: &[usize],
+    machines: &[usize],
     counts: &mut [usize],
     stack: &mut [usize],
     order: &mut [usize],
+    starts: &mut [u64],
+    ends: &mut [u64],
 ) -> usize
-    requires { ⌜ Tabled (problemOf (words (now s)) z) (now table) × Accepted (problemOf (words (now s)) z) (genesOf (words (now s)) z) × WellFormed (z .activities) (z .machines) (linesIn (now cells) lens) ⌝ }
-    requires { ⌜ Neighbours (z .activities) (linesIn (now cells) lens) (now before) (now after) × Space (z .activities) (now counts) (now stack) (now order) ⌝ }
-    ensures { λ r. ⌜ (take r (now (order .exit)) ≡ timingOrder (problemOf (words (now (s .entry))) z) (linesIn (now (cells .entry)) lens)) × (r ≤ z .activities) ⌝ }
+    requires { ⌜ Placed z × Accepted (problemOf (words (now s)) z) (genesOf (words (now s)) z) × Tabled (problemOf (words (now s)) z) (now table) × (now ways ≡ transportsOf (problemOf (words (now s)) z)) ⌝ }
+    requires { ⌜ WellFormed (z .activities) (z .machines) (linesIn (now cells) (now lens)) × Neighbours (z .activities) (linesIn (now cells) (now lens)) (now before) (now after) × Seated (z .activities) (linesIn (now cells) (now lens)) (now before) (now machines) ⌝ }
+    requires { ⌜ Space (z .activities) (now counts) (now stack) (now order) × (length (now starts) ≡ z .activities) × (length (now ends) ≡ z .activities) ⌝ }
+    ensures { λ r. ⌜ (take r (now (order .exit)) ≡ timingOrder (problemOf (words (now (s .entry))) z) (linesIn (now (cells .entry)) (now (lens .entry)))) × (r ≤ z .activities) ⌝ }
+    ensures { λ r. ⌜ (z .activities ≤ r → Placement (problemOf (words (now (s .entry))) z) (linesIn (now (cells .entry)) (now (lens .entry))) (now (starts .exit)) (now (ends .exit))) ⌝ }
 {
     let n = z.activities;
     let waits = tables::WAITS;
     let waits_end = waits + n;
     add_line_waits(&table[waits..waits_end], before, counts);
+    let first = graph::stack_free(counts, stack);
+    let own = words::word(s, z.at.setups) == 0;
     let nexts = tables::NEXTS;
     let nexts_end = nexts + n;
     let at = tables::WAITING_AT;
     let at_end = at + 129;
     let waiting = tables::WAITING;
     let waiting_end = waiting + 256;
-    graph::order_of(
-        after,
-        &table[nexts..nexts_end],
-        &table[at..at_end],
-        &table[waiting..waiting_end],
-        counts,
-        stack,
-        order,
-    )
-}
-
-// The same with work space of its own.
-pub fn timing_order(
-    s: &[u8],
-    z: Layout,
-    table: &[usize],
-    cells: &[usize],
-    lens: [usize; 16],
-    before: &[usize],
-    after: &[usize],
-    order: &mut [usize],
-) -> usize
-    requires { ⌜ Tabled (problemOf (words (now s)) z) (now table) × Accepted (problemOf (words (now s)) z) (genesOf (words (now s)) z) × WellFormed (z .activities) (z .machines) (linesIn (now cells) lens) ⌝ }
-    requires { ⌜ Neighbours (z .activities) (linesIn (now cells) lens) (now before) (now after) × (length (now order) ≡ z .activities) ⌝ }
-    ensures { λ r. ⌜ (take r (now (order .exit)) ≡ timingOrder (problemOf (words (now (s .entry))) z) (linesIn (now (cells .entry)) lens)) × (r ≤ z .activities) ⌝ }
-{
-    let n = z.activities;
-    let mut counts = [0usize; 128];
-    let mut stack = [0usize; 128];
-    order_lines(
+    take_and_place(
         s,
         z,
         table,
+        ways,
+        own,
         cells,
         lens,
         before,
         after,
+        &table[nexts..nexts_end],
+        &table[at..at_end],
+        &table[waiting..waiting_end],
+        machines,
+        counts,
+        stack,
+        first,
+        order,
+        starts,
+        ends,
+    )
+}
+
+// Times lines whose links are known: false where they contradict; else the timing order, and each activity's start and end.
+pub fn time_linked(
+    s: &[u8],
+    z: Layout,
+    table: &[usize],
+    ways: &[[u32; 16]; 16],
+    cells: &[usize],
+    lens: &[usize; 16],
+    before: &[usize],
+    after: &[usize],
+    machines: &[usize],
+    order: &mut [usize],
+    starts: &mut [u64],
+    ends: &mut [u64],
+) -> bool
+    requires { ⌜ Placed z × Accepted (problemOf (words (now s)) z) (genesOf (words (now s)) z) × Tabled (problemOf (words (now s)) z) (now table) × (now ways ≡ transportsOf (problemOf (words (now s)) z)) ⌝ }
+    requires { ⌜ WellFormed (z .activities) (z .machines) (linesIn (now cells) (now lens)) × Neighbours (z .activities) (linesIn (now cells) (now lens)) (now before) (now after) × Seated (z .activities) (linesIn (now cells) (now lens)) (now before) (now machines) ⌝ }
+    requires { ⌜ (length (now order) ≡ z .activities) × (length (now starts) ≡ z .activities) × (length (now ends) ≡ z .activities) ⌝ }
+    ensures answer { λ r. ⌜ r ≡ not (contradicts (problemOf (words (now (s .entry))) z) (linesIn (now (cells .entry)) (now (lens .entry)))) ⌝ }
+    ensures timed { λ r. ⌜ (r ≡ true → Timed (problemOf (words (now (s .entry))) z) (linesIn (now (cells .entry)) (now (lens .entry))) (now (order .exit)) (now (starts .exit)) (now (ends .exit))) ⌝ }
+{
+    let n = z.activities;
+    let mut counts = [0usize; 128];
+    let mut stack = [0usize; 128];
+    let taken = order_and_place(
+        s,
+        z,
+        table,
+        ways,
+        cells,
+        lens,
+        before,
+        after,
+        machines,
         &mut counts[..n],
         &mut stack,
         order,
-    )
+        starts,
+        ends,
+    );
+    n <= taken
 }
 
 // Times lines: false where they contradict; else the timing order, and each activity's start and end. Of each activity is written, too, who
@@ -145,7 +218,7 @@ pub fn time_sequences(
     s: &[u8],
     z: Layout,
     table: &[usize],
-    ways: [[u32; 16]; 16],
+    ways: &[[u32; 16]; 16],
     cells: &[usize],
     lens: [usize; 16],
     before: &mut [usize],
@@ -156,30 +229,25 @@ pub fn time_sequences(
     starts: &mut [u64],
     ends: &mut [u64],
 ) -> bool
-    requires { ⌜ Placed z × Accepted (problemOf (words (now s)) z) (genesOf (words (now s)) z) × Tabled (problemOf (words (now s)) z) (now table) × (ways ≡ transportsOf (problemOf (words (now s)) z)) ⌝ }
+    requires { ⌜ Placed z × Accepted (problemOf (words (now s)) z) (genesOf (words (now s)) z) × Tabled (problemOf (words (now s)) z) (now table) × (now ways ≡ transportsOf (problemOf (words (now s)) z)) ⌝ }
     requires { ⌜ (length (now cells) ≡ 2048) × WellFormed (z .activities) (z .machines) (linesIn (now cells) lens) × Rooms (z .activities) (now before) (now after) (now machines) (now places) (now order) (now starts) (now ends) ⌝ }
     ensures answer { λ r. ⌜ r ≡ not (contradicts (problemOf (words (now (s .entry))) z) (linesIn (now (cells .entry)) lens)) ⌝ }
     ensures linked { λ _. ⌜ LinesHeld (z .activities) (linesIn (now (cells .entry)) lens) (linksOf (now (before .exit)) (now (after .exit)) (now (machines .exit)) (now (places .exit))) ⌝ }
     ensures timed { λ r. ⌜ (r ≡ true → Timed (problemOf (words (now (s .entry))) z) (linesIn (now (cells .entry)) lens) (now (order .exit)) (now (starts .exit)) (now (ends .exit))) ⌝ }
 {
-    let n = z.activities;
-    lines::link_lines(n, cells, lens, before, after, machines, places);
-    let taken = timing_order(s, z, table, cells, lens, before, after, order);
-    if taken < n {
-        return false;
-    }
-    place(
+    lines::link_lines(z.activities, cells, lens, before, after, machines, places);
+    time_linked(
         s,
         z,
         table,
         ways,
         cells,
-        lens,
+        &lens,
         before,
+        after,
         machines,
         order,
         starts,
         ends,
-    );
-    true
+    )
 }

@@ -1,10 +1,11 @@
-// Each activity placed along the timing order, at the earliest start that the ends of those it waits for allow.
+// An activity placed at the earliest start that the ends of those it waits for allow.
 use crate::after_named;
 use graph::Link;
 use plan::Layout;
 ghost use mathlib.Core.Path.{_≡_};
+ghost use mathlib.Core.Bool.{true};
 ghost use Prim.Native.Nat.{ℕ, _+_, _^_, _≤_, _<_};
-ghost use lib.ListN.{length, getD};
+ghost use lib.ListN.{length, getD, set};
 ghost use Rattle.words.specs.Words.{words};
 ghost use Rattle.graph.specs.Counting.{Below};
 ghost use Rattle.graph.specs.Links.{linked};
@@ -16,7 +17,7 @@ ghost use Rattle.tables.specs.Tabled.{Tabled};
 ghost use Rattle.bounds.specs.Bounds.{setupOf, spanOf};
 ghost use Rattle.lines.specs.Lines.{linesIn, WellFormed};
 ghost use Rattle.timing.specs.Timing.{setupsOf};
-ghost use Rattle.timing.specs.Placing.{machineBefore, startAfter, Ending, Bound, Seated, Whole, Placement};
+ghost use Rattle.timing.specs.Placing.{machineBefore, startAfter, Ending, Bound, Seated, Placeable, startNow, endNow};
 
 // The machine of the step before; 0 where there is none.
 pub fn machine_before(step: Link, machines: &[usize]) -> usize
@@ -85,126 +86,46 @@ pub fn start_after(table: &[usize], a: usize, line: Link, step: Link, way: u64, 
     after_named(tables::named_by(table, a), ends, first)
 }
 
-// Places every activity, each after the setup of its change.
-fn place_with_setups(
-    s: &[u8],
-    z: Layout,
-    table: &[usize],
-    ways: [[u32; 16]; 16],
-    cells: &[usize],
-    lens: [usize; 16],
-    before: &[usize],
-    machines: &[usize],
-    order: &[usize],
-    starts: &mut [u64],
-    ends: &mut [u64],
-)
-    requires { ⌜ Placed z × Accepted (problemOf (words (now s)) z) (genesOf (words (now s)) z) × Tabled (problemOf (words (now s)) z) (now table) × (ways ≡ transportsOf (problemOf (words (now s)) z)) ⌝ }
-    requires { ⌜ WellFormed (z .activities) (z .machines) (linesIn (now cells) lens) × Seated (z .activities) (linesIn (now cells) lens) (now before) (now machines) × Whole (problemOf (words (now s)) z) (linesIn (now cells) lens) (now order) ⌝ }
-    requires { ⌜ (length (now starts) ≡ z .activities) × (length (now ends) ≡ z .activities) ⌝ }
-    ensures { λ _. ⌜ Placement (problemOf (words (now (s .entry))) z) (linesIn (now (cells .entry)) lens) (now (starts .exit)) (now (ends .exit)) ⌝ }
+// How long an activity takes on a machine after another. Where there are no Setups entries (`own`) that is its own span.
+fn span_on(s: &[u8], z: Layout, table: &[usize], own: bool, a: usize, m: usize, line: Link) -> u64
+    requires { ⌜ Placed z × Accepted (problemOf (words (now s)) z) (genesOf (words (now s)) z) × Tabled (problemOf (words (now s)) z) (now table) × (own ≡ true → getD (words (now s)) (z .at .setups) 0 ≡ 0) ⌝ }
+    requires { ⌜ (a < z .activities) × (m < z .machines) × Below (z .activities) (linked line) ⌝ }
+    ensures { λ r. ⌜ r ≡ spanOf (problemOf (words (now (s .entry))) z) a m (setupOf (problemOf (words (now (s .entry))) z) a m line) ⌝ }
 {
-    let mut i = 0;
-    while i < order.len() {
-        let a = order[i];
-        let m = machines[a];
-        let line = graph::link_of(before, a);
-        let step = tables::before_of(table, a);
-        let from = machine_before(step, machines);
-        let way = ways[from][m] as u64;
-        let start = start_after(table, a, line, step, way, ends);
-        let span = span_after(s, z, table, a, m, line);
-        starts[a] = start;
-        ends[a] = start + span;
-        i += 1;
+    if own {
+        return own_span(s, z, a, m);
     }
+    span_after(s, z, table, a, m, line)
 }
 
-// Places every activity, each after its own setup: the same where there are no Setups entries, and quicker.
-fn place_with_own(
-    s: &[u8],
-    z: Layout,
-    table: &[usize],
-    ways: [[u32; 16]; 16],
-    cells: &[usize],
-    lens: [usize; 16],
-    before: &[usize],
-    machines: &[usize],
-    order: &[usize],
-    starts: &mut [u64],
-    ends: &mut [u64],
-)
-    requires { ⌜ Placed z × Accepted (problemOf (words (now s)) z) (genesOf (words (now s)) z) × Tabled (problemOf (words (now s)) z) (now table) × (ways ≡ transportsOf (problemOf (words (now s)) z)) ⌝ }
-    requires { ⌜ WellFormed (z .activities) (z .machines) (linesIn (now cells) lens) × Seated (z .activities) (linesIn (now cells) lens) (now before) (now machines) × Whole (problemOf (words (now s)) z) (linesIn (now cells) lens) (now order) ⌝ }
-    requires { ⌜ (length (now starts) ≡ z .activities) × (length (now ends) ≡ z .activities) ⌝ }
-    requires { ⌜ getD (words (now s)) (z .at .setups) 0 ≡ 0 ⌝ }
-    ensures { λ _. ⌜ Placement (problemOf (words (now (s .entry))) z) (linesIn (now (cells .entry)) lens) (now (starts .exit)) (now (ends .exit)) ⌝ }
-{
-    let mut i = 0;
-    while i < order.len() {
-        let a = order[i];
-        let m = machines[a];
-        let line = graph::link_of(before, a);
-        let step = tables::before_of(table, a);
-        let from = machine_before(step, machines);
-        let way = ways[from][m] as u64;
-        let start = start_after(table, a, line, step, way, ends);
-        let span = own_span(s, z, a, m);
-        starts[a] = start;
-        ends[a] = start + span;
-        i += 1;
-    }
-}
-
-// Writes the start and the end of every activity, in the timing order of the lines. `before` links each to the one before it on its line,
-// and `machines` has the machine whose line holds it.
+// Places an activity: its start by the ends of those that it waits for, its end by its span. `before` links each to the one before it on its
+// line, and `machines` has the machine whose line holds it.
 pub fn place(
     s: &[u8],
     z: Layout,
     table: &[usize],
-    ways: [[u32; 16]; 16],
-    cells: &[usize],
-    lens: [usize; 16],
+    ways: &[[u32; 16]; 16],
+    own: bool,
     before: &[usize],
     machines: &[usize],
-    order: &[usize],
+    a: usize,
     starts: &mut [u64],
     ends: &mut [u64],
 )
-    requires { ⌜ Placed z × Accepted (problemOf (words (now s)) z) (genesOf (words (now s)) z) × Tabled (problemOf (words (now s)) z) (now table) × (ways ≡ transportsOf (problemOf (words (now s)) z)) ⌝ }
-    requires { ⌜ WellFormed (z .activities) (z .machines) (linesIn (now cells) lens) × Seated (z .activities) (linesIn (now cells) lens) (now before) (now machines) × Whole (problemOf (words (now s)) z) (linesIn (now cells) lens) (now order) ⌝ }
-    requires { ⌜ (length (now starts) ≡ z .activities) × (length (now ends) ≡ z .activities) ⌝ }
-    ensures { λ _. ⌜ Placement (problemOf (words (now (s .entry))) z) (linesIn (now (cells .entry)) lens) (now (starts .exit)) (now (ends .exit)) ⌝ }
+    requires { ⌜ Placed z × Accepted (problemOf (words (now s)) z) (genesOf (words (now s)) z) × Tabled (problemOf (words (now s)) z) (now table) × (own ≡ true → getD (words (now s)) (z .at .setups) 0 ≡ 0) × (now ways ≡ transportsOf (problemOf (words (now s)) z)) ⌝ }
+    requires { ⌜ Placeable (problemOf (words (now s)) z) (now before) (now machines) (now starts) (now ends) a ⌝ }
+    ensures { λ _. ⌜ now (starts .exit) ≡ set (now (starts .entry)) a (startNow (problemOf (words (now (s .entry))) z) (now (before .entry)) (now (machines .entry)) (now (ends .entry)) a) ⌝ }
+    ensures { λ _. ⌜ now (ends .exit) ≡ set (now (ends .entry)) a (endNow (problemOf (words (now (s .entry))) z) (now (before .entry)) (now (machines .entry)) (now (ends .entry)) a) ⌝ }
 {
-    if words::word(s, z.at.setups) == 0 {
-        place_with_own(
-            s,
-            z,
-            table,
-            ways,
-            cells,
-            lens,
-            before,
-            machines,
-            order,
-            starts,
-            ends,
-        );
-        return;
-    }
-    place_with_setups(
-        s,
-        z,
-        table,
-        ways,
-        cells,
-        lens,
-        before,
-        machines,
-        order,
-        starts,
-        ends,
-    );
+    let m = machines[a];
+    let line = graph::link_of(before, a);
+    let step = tables::before_of(table, a);
+    let from = machine_before(step, machines);
+    let way = ways[from][m] as u64;
+    let start = start_after(table, a, line, step, way, ends);
+    let span = span_on(s, z, table, own, a, m, line);
+    starts[a] = start;
+    ends[a] = start + span;
 }
 
 // Writes the setup of every activity where its line has it.
