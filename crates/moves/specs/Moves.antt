@@ -113,3 +113,11 @@ abbrev pub Reads : Move → Type 0
 Reads (Swap m i) = (m < 16) × (i + 1 < 128)
 Reads (Shift m i j) = (m < 16) × (i < 128) × (j < 128)
 Reads (Reassign a r i q j) = Unit {0}
+
+-- ---- which lines a move changes: a swap or a shift its own, a reassignment the one left and the one joined
+
+-- there are machines of the numbers that it names
+abbrev pub Known : Move → Type 0
+Known (Swap m i) = m < 16
+Known (Shift m i j) = m < 16
+Known (Reassign a r i q j) = (r < 16) × (q < 16)
