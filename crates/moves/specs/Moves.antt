@@ -114,9 +114,9 @@ Reads (Swap m i) = (m < 16) × (i + 1 < 128)
 Reads (Shift m i j) = (m < 16) × (i < 128) × (j < 128)
 Reads (Reassign a r i q j) = Unit {0}
 
--- ---- which lines a move changes: a swap or a shift its own, a reassignment the one left and the one joined
+-- ---- lines linked again: a swap or a shift changes its own, a reassignment the one left and the one joined
 
--- there are machines of the numbers that it names
+-- the machines that it names are among the sixteen
 abbrev pub Known : Move → Type 0
 Known (Swap m i) = m < 16
 Known (Shift m i j) = m < 16
