@@ -4,5 +4,6 @@ pub mod TestLaws
 pub mod CountLaws
 pub mod LinkLaws
 pub mod LinkingLoops
+pub mod RelinkLaws
 pub mod DealLaws
 pub mod Worked

@@ -23,7 +23,7 @@ arcs-dual (l ∷ lines) p a =
     omega
     (arith, countOf-append a (naming p (rest l) l) (afters lines p), countOf-append p (naming a l (rest l)) (befores lines a), naming-dual p a (rest l) l, arcs-dual lines p a)
 
-naming-few : (a : ℕ) (bs ps : List ℕ) → length (naming a bs ps) ≤ countOf a ps
+pub naming-few : (a : ℕ) (bs ps : List ℕ) → length (naming a bs ps) ≤ countOf a ps
 unfolding naming countOf
 naming-few a [] ps = omega arith
 naming-few a (b ∷ bs) [] = omega arith
@@ -31,7 +31,7 @@ naming-few a (b ∷ bs) (p ∷ ps) =
     let ih = naming-few a bs ps in
     either p a (λ e. rw (eq-eqb p a e) (omega (arith, hit-eq p a e))) (λ ne. rw (ne-eqb p a ne) (omega arith))
 
-rest-few : (a : ℕ) (l : List ℕ) → countOf a (rest l) ≤ countOf a l
+pub rest-few : (a : ℕ) (l : List ℕ) → countOf a (rest l) ≤ countOf a l
 unfolding countOf
 rest-few a [] = omega arith
 rest-few a (x ∷ l) = omega arith

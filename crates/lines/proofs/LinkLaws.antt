@@ -16,7 +16,7 @@ use Rattle.lines.proofs.LineLaws.{at-most-once, befores-few, afters-few
 
 -- ---- one list written into: the last one written counts
 
-abbrev lastOr : List ℕ → ℕ → ℕ
+abbrev pub lastOr : List ℕ → ℕ → ℕ
 lastOr [] d = d
 lastOr (x ∷ l) d = lastOr l x
 
@@ -30,7 +30,7 @@ written-length [] vs c = refl
 written-length (k ∷ ks) [] c = refl
 written-length (k ∷ ks) (v ∷ vs) c = written-length ks vs (set c k v) ∙ length-set c k v
 
-written-at : (ks vs c : List ℕ) (x : ℕ) → Below (length c) ks → getD (written ks vs c) x 0 ≡ lastOr (naming x vs ks) (getD c x 0)
+pub written-at : (ks vs c : List ℕ) (x : ℕ) → Below (length c) ks → getD (written ks vs c) x 0 ≡ lastOr (naming x vs ks) (getD c x 0)
 unfolding written naming Below
 written-at [] [] c x h = refl
 written-at [] (v ∷ vs) c x h = refl
@@ -46,13 +46,13 @@ unfolding marked
 marked-length [] m c = refl
 marked-length (k ∷ ks) m c = marked-length ks m (set c k m) ∙ length-set c k m
 
-marked-out : (ks : List ℕ) (m : ℕ) (c : List ℕ) (x : ℕ) → countOf x ks ≡ 0 → getD (marked ks m c) x 0 ≡ getD c x 0
+pub marked-out : (ks : List ℕ) (m : ℕ) (c : List ℕ) (x : ℕ) → countOf x ks ≡ 0 → getD (marked ks m c) x 0 ≡ getD c x 0
 unfolding marked countOf
 marked-out [] m c x z = refl
 marked-out (k ∷ ks) m c x z =
     marked-out ks m (set c k m) x (omega arith) ∙ getD-set-other c k x m 0 (λ e. absurd (omega (arith, hit-eq k x (sym e))))
 
-marked-in : (ks : List ℕ) (m : ℕ) (c : List ℕ) (x : ℕ) → Below (length c) ks → 0 < countOf x ks → getD (marked ks m c) x 0 ≡ m
+pub marked-in : (ks : List ℕ) (m : ℕ) (c : List ℕ) (x : ℕ) → Below (length c) ks → 0 < countOf x ks → getD (marked ks m c) x 0 ≡ m
 unfolding marked countOf Below
 marked-in [] m c x h p = absurd (omega arith)
 marked-in (k ∷ ks) m c x h p =
@@ -67,13 +67,13 @@ unfolding numbered
 numbered-length [] i c = refl
 numbered-length (k ∷ ks) i c = numbered-length ks (i + 1) (set c k i) ∙ length-set c k i
 
-numbered-out : (ks : List ℕ) (i : ℕ) (c : List ℕ) (x : ℕ) → countOf x ks ≡ 0 → getD (numbered ks i c) x 0 ≡ getD c x 0
+pub numbered-out : (ks : List ℕ) (i : ℕ) (c : List ℕ) (x : ℕ) → countOf x ks ≡ 0 → getD (numbered ks i c) x 0 ≡ getD c x 0
 unfolding numbered countOf
 numbered-out [] i c x z = refl
 numbered-out (k ∷ ks) i c x z =
     numbered-out ks (i + 1) (set c k i) x (omega arith) ∙ getD-set-other c k x i 0 (λ e. absurd (omega (arith, hit-eq k x (sym e))))
 
-numbered-in : (ks : List ℕ) (i : ℕ) (c : List ℕ) (x : ℕ) → Below (length c) ks → countOf x ks ≡ 1 → getD (numbered ks i c) x 0 ≡ i + placeOn ks x
+pub numbered-in : (ks : List ℕ) (i : ℕ) (c : List ℕ) (x : ℕ) → Below (length c) ks → countOf x ks ≡ 1 → getD (numbered ks i c) x 0 ≡ i + placeOn ks x
 unfolding numbered countOf Below placeOn
 numbered-in [] i c x h p = absurd (omega arith)
 numbered-in (k ∷ ks) i c x h p =
@@ -151,7 +151,7 @@ place-in n m (l ∷ lines) k x h r o =
 -- ---- the arrays hold the lines
 
 -- a link that was n before anything was written
-link-first : (n : ℕ) (links : List ℕ) (a : ℕ) (l : List ℕ) → n ≤ length links → a < n → length l ≤ 1 → Below n l → getD links a 0 ≡ lastOr l n
+pub link-first : (n : ℕ) (links : List ℕ) (a : ℕ) (l : List ℕ) → n ≤ length links → a < n → length l ≤ 1 → Below n l → getD links a 0 ≡ lastOr l n
     → linkOf (take n links) a ≡ firstOf l
 unfolding Below
 link-first n links a [] h k f b e =

@@ -47,16 +47,19 @@ unfolding linesFrom
 left-none cells lens m e = rw (e, drop-length lens)
 
 -- line m is the used part of its stretch
-lines-at : (cells : List ℕ) (at : ℕ) (lens : List ℕ) (m : ℕ) → m < length lens → getD (linesFrom cells at lens) m [] ≡ cellsFrom cells (at + 128 * m) (getD lens m 0)
-unfolding linesFrom
-lines-at cells at [] m h = absurd (omega arith)
-lines-at cells at (len ∷ lens) zero h = let e : at ≡ at + 128 * 0 = omega arith in ap (λ (k : ℕ). cellsFrom cells k len) e
-lines-at cells at (len ∷ lens) (suc m) h =
+lines-at : (cells : List ℕ) (at : ℕ) (lens : List ℕ) (m : ℕ) → getD (linesFrom cells at lens) m [] ≡ cellsFrom cells (at + 128 * m) (getD lens m 0)
+unfolding linesFrom cellsFrom
+lines-at cells at [] m = refl
+lines-at cells at (len ∷ lens) zero = let e : at ≡ at + 128 * 0 = omega arith in ap (λ (k : ℕ). cellsFrom cells k len) e
+lines-at cells at (len ∷ lens) (suc m) =
     let e : at + 128 + 128 * m ≡ at + 128 * suc m = omega arith in
-    lines-at cells (at + 128) lens m (omega arith) ∙ ap (λ (k : ℕ). cellsFrom cells k (getD lens m 0)) e
+    lines-at cells (at + 128) lens m ∙ ap (λ (k : ℕ). cellsFrom cells k (getD lens m 0)) e
+
+pub line-cells : (cells lens : List ℕ) (m : ℕ) → getD (linesIn cells lens) m [] ≡ cellsFrom cells (128 * m) (getD lens m 0)
+line-cells cells lens m =
+    let e : 0 + 128 * m ≡ 128 * m = omega arith in
+    lines-at cells 0 lens m ∙ ap (λ (p : ℕ). cellsFrom cells p (getD lens m 0)) e
 
 pub line-in : (cells lens : List ℕ) (m : ℕ) → m < length lens → 128 * m + getD lens m 0 ≤ length cells
     → getD (linesIn cells lens) m [] ≡ take (getD lens m 0) (drop (128 * m) cells)
-line-in cells lens m h k =
-    let e : 0 + 128 * m ≡ 128 * m = omega arith in
-    lines-at cells 0 lens m h ∙ ap (λ (p : ℕ). cellsFrom cells p (getD lens m 0)) e ∙ cells-part cells (128 * m) (getD lens m 0) k
+line-in cells lens m h k = line-cells cells lens m ∙ cells-part cells (128 * m) (getD lens m 0) k

@@ -1,9 +1,11 @@
 // The lines of a workshop's machines: number 7's test, who stands before and after whom, and the lines that an order gives.
 mod dealing;
 mod linking;
+mod relinking;
 
 pub use dealing::deal;
 pub use linking::link_lines;
+pub use relinking::relink_line;
 ghost use mathlib.Core.Path.{_≡_};
 ghost use Prim.Native.Nat.{ℕ, _≤_};
 ghost use lib.ListN.{length, getD};

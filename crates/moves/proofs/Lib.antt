@@ -4,4 +4,5 @@ pub mod PairLaws
 pub mod MoveLaws
 pub mod HeldLaws
 pub mod StandingLaws
+pub mod RelinkLaws
 pub mod Worked

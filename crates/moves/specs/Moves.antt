@@ -113,3 +113,11 @@ abbrev pub Reads : Move → Type 0
 Reads (Swap m i) = (m < 16) × (i + 1 < 128)
 Reads (Shift m i j) = (m < 16) × (i < 128) × (j < 128)
 Reads (Reassign a r i q j) = Unit {0}
+
+-- ---- lines linked again: a swap or a shift changes its own, a reassignment the one left and the one joined
+
+-- the machines that it names are among the sixteen
+abbrev pub Known : Move → Type 0
+Known (Swap m i) = m < 16
+Known (Shift m i j) = m < 16
+Known (Reassign a r i q j) = (r < 16) × (q < 16)

@@ -1,8 +1,10 @@
 // Moves of the search: what each does to the lines, how it is taken back, and the pair by which it is
 // forbidden for a while.
 mod line;
+mod relinking;
 
 pub use line::moved;
+pub use relinking::relink;
 ghost use mathlib.Core.Path.{_≡_};
 ghost use Prim.Native.Nat.{_+_, _≤_, _<_};
 ghost use lib.ListN.{length, getD, set};
