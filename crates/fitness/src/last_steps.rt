@@ -65,15 +65,17 @@ fn sums_by_last_steps(s: &[u8], z: Layout, ends: &[u64]) -> Sums
     requires { ⌜ Ended (z .activities) (now ends) × Rising (problemOf (words (now s)) z) (now ends) ⌝ }
     ensures { λ r. ⌜ (r ≡ sumsOf (problemOf (words (now (s .entry))) z) (λ a. getD (now (ends .entry)) a 0)) × (r .makespan ≤ 2 ^ 53) × (r .late ≤ 2 ^ 53) ⌝ }
 {
-    let mut next: usize = 0;
+    let mut first: usize = 0;
     let mut makespan: u64 = 0;
     let mut late: u64 = 0;
     for t in 0..z.tasks {
         let of = row(s, z.at.tasks + 3 + 5 * t);
-        next += of.steps as usize;
-        let done = ends[next - 1];
+        let steps = of.steps as usize;
+        let last = first + steps - 1;
+        let done = ends[last];
         makespan = bounds::later(makespan, done);
         late += late_in(of, done);
+        first += steps;
     }
     Sums { makespan, late }
 }

@@ -1,5 +1,5 @@
 -- `fitness::last_steps::sums_by_last_steps` meets its contract. The loop's invariant: of the tasks passed, `makespan` is the latest completion and
--- `late` the sum of the tardinesses, and `next` is the next task's first activity.
+-- `late` the sum of the tardinesses, and `first` is the next task's first activity.
 use Prim.Native.Nat.{ℕ, _+_, _*_, _-_, _≤_, _^_}
 use mathlib.Core.Path.{_≡_, refl, sym, ap, _∙_}
 use native.Mathlib.Omega.{arith}
@@ -17,13 +17,13 @@ use Rattle.fitness.proofs.last_steps.sums_by_last_steps.Statement.{stat
 use Rattle.fitness.proofs.last_steps.sums_by_last_steps.Tie as tie
 
 abbrev Inv-loop : tie.InvT-loop
-Inv-loop s z ends next₀ makespan₀ late₀ t₀ t-end next makespan late t =
-    (t ≤ z .tasks) × (next ≡ problemOf (words s) z .first t)
+Inv-loop s z ends first₀ makespan₀ late₀ t₀ t-end first makespan late t =
+    (t ≤ z .tasks) × (first ≡ problemOf (words s) z .first t)
     × (makespan ≡ latest (completionOf (problemOf (words s) z) (λ a. getD ends a 0)) 0 t)
     × (late ≡ sumTo (lateness (problemOf (words s) z) (λ a. getD ends a 0)) t)
 
 abbrev μ-loop : tie.MeasureT-loop
-μ-loop s z ends next₀ makespan₀ late₀ t₀ t-end next makespan late t = z .tasks - t
+μ-loop s z ends first₀ makespan₀ late₀ t₀ t-end first makespan late t = z .tasks - t
 
 -- A row says how many steps its task has; they are among all.
 steps-are : (c : tie.After-row Inv-loop μ-loop)
@@ -35,11 +35,11 @@ steps-are c =
     let b = l .before .before .before in
     row-steps (words (b .args .s .now)) (b .args .z) (l .loop .t) (b .args .z .at .tasks + 3 + 5 * l .loop .t) (c .row .result) (c .row .ensures) refl
 
-next-within : (c : tie.After-row Inv-loop μ-loop)
+steps-within : (c : tie.After-row Inv-loop μ-loop)
     → let l = c .before .before .before in
     let b = l .before .before .before in
-    (1 ≤ c .row .result .steps) × (l .loop .next + c .row .result .steps ≤ b .args .z .activities)
-next-within c =
+    (1 ≤ c .row .result .steps) × (l .loop .first + c .row .result .steps ≤ b .args .z .activities)
+steps-within c =
     let l = c .before .before .before in
     let b = l .before .before .before in
     let h = c .before .before .loop-test .taken in (
@@ -51,17 +51,17 @@ next-within c =
 done-is : (c : tie.After-row Inv-loop μ-loop)
     → let l = c .before .before .before in
     let b = l .before .before .before in
-    getD (b .args .ends .now) (l .loop .next + c .row .result .steps - 1) 0 ≡ completionOf (problemOf (words (b .args .s .now)) (b .args .z)) (λ a. getD (b .args .ends .now) a 0) (l .loop .t)
+    getD (b .args .ends .now) (l .loop .first + c .row .result .steps - 1) 0 ≡ completionOf (problemOf (words (b .args .s .now)) (b .args .z)) (λ a. getD (b .args .ends .now) a 0) (l .loop .t)
 done-is c =
     let l = c .before .before .before in
     let b = l .before .before .before in
-    completion-last (b .pre .0 .1) (b .args .ends .now) (b .pre .1 .1) (l .loop .t) (l .loop .next + c .row .result .steps - 1) (c .before .before .loop-test .taken)
-    (omega (arith, steps-are c, next-within c .0, l .loop .inv .1))
+    completion-last (b .pre .0 .1) (b .args .ends .now) (b .pre .1 .1) (l .loop .t) (l .loop .first + c .row .result .steps - 1) (c .before .before .loop-test .taken)
+    (omega (arith, steps-are c, steps-within c .0, l .loop .inv .1))
 
 done-below : (c : tie.After-row Inv-loop μ-loop)
     → let l = c .before .before .before in
     let b = l .before .before .before in
-    getD (b .args .ends .now) (l .loop .next + c .row .result .steps - 1) 0 ≤ latestEnd
+    getD (b .args .ends .now) (l .loop .first + c .row .result .steps - 1) 0 ≤ latestEnd
 done-below c =
     let l = c .before .before .before in
     let b = l .before .before .before in
@@ -78,7 +78,7 @@ late-is c =
     let b = l .before .before .before in
     c .late-in .ensures
     ∙ row-late (words (b .args .s .now)) (b .args .z) (l .loop .t) (b .args .z .at .tasks + 3 + 5 * l .loop .t) (r .row .result) (r .row .ensures) refl
-    (getD (b .args .ends .now) (l .loop .next + r .row .result .steps - 1) 0)
+    (getD (b .args .ends .now) (l .loop .first + r .row .result .steps - 1) 0)
     ∙ ap (λ (x : ℕ). tardinessOf x (problemOf (words (b .args .s .now)) (b .args .z) .deadline (l .loop .t))) (done-is r)
 
 late-fits : (c : tie.After-late-in Inv-loop μ-loop) → c .before .before .before .before .before .before .before .loop .late + c .late-in .result ≤ 2 ^ 53
@@ -108,23 +108,23 @@ add-row-2 c = search needs
 row-requires : tie.Need-row-requires Inv-loop μ-loop
 row-requires c κs = search needs
 
-cast-next : tie.Need-cast-next Inv-loop μ-loop
-cast-next c = search needs
+cast-steps : tie.Need-cast-steps Inv-loop μ-loop
+cast-steps c = search needs
 
-add-next : tie.Need-add-next Inv-loop μ-loop
-add-next c = omega (arith, next-within (c .before) .1, c .before .before .before .before .before .before .before .pre .0 .0 .activities)
+add-last : tie.Need-add-last Inv-loop μ-loop
+add-last c = omega (arith, steps-within (c .before) .1, c .before .before .before .before .before .before .before .pre .0 .0 .activities)
 
-sub-done : tie.Need-sub-done Inv-loop μ-loop
-sub-done c = omega (arith, next-within (c .before) .0)
+sub-last : tie.Need-sub-last Inv-loop μ-loop
+sub-last c = omega (arith, steps-within (c .before) .0)
 
 mul-done : tie.Need-mul-done Inv-loop μ-loop
-mul-done c = let b = c .before .before .before .before .before .before .before in omega (arith, next-within (c .before) .1, b .pre .0 .0 .activities)
+mul-done c = let b = c .before .before .before .before .before .before .before in omega (arith, steps-within (c .before) .1, b .pre .0 .0 .activities)
 
 shared-slice-read-done : tie.Need-shared-slice-read-done Inv-loop μ-loop
 shared-slice-read-done c =
     let r = c .before .before in
     let b = r .before .before .before .before .before .before in
-    omega (arith, next-within r .0, next-within r .1, b .pre .1 .0 .each)
+    omega (arith, steps-within r .0, steps-within r .1, b .pre .1 .0 .each)
 
 later-requires : tie.Need-later-requires Inv-loop μ-loop
 later-requires c κs = tt
@@ -134,6 +134,11 @@ late-in-requires c κs = omega (arith, done-below (c .before .before .before))
 
 add-late : tie.Need-add-late Inv-loop μ-loop
 add-late c = omega (arith, late-fits c)
+
+add-first : tie.Need-add-first Inv-loop μ-loop
+add-first c =
+    let r = c .before .before .before .before in
+    omega (arith, steps-within r .1, r .before .before .before .before .before .before .pre .0 .0 .activities)
 
 add-t : tie.Need-add-t Inv-loop μ-loop
 add-t c = search needs
@@ -174,14 +179,15 @@ sums-by-last-steps-spec =
     mul-row
     add-row-2
     row-requires
-    cast-next
-    add-next
-    sub-done
+    cast-steps
+    add-last
+    sub-last
     mul-done
     shared-slice-read-done
     later-requires
     late-in-requires
     add-late
+    add-first
     add-t
     loop-less
     loop-again
