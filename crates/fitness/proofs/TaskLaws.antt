@@ -29,7 +29,7 @@ use Rattle.fitness.proofs.LatestLaws.{latest-most, latest-same, sum-mos
 
 module _ {p : Problem} {g : Genes} (plan : Accepted p g) where
   -- Later tasks begin later.
-  first-rises : (t k : ℕ) → p .first t ≤ p .first (t + k)
+  pub first-rises : (t k : ℕ) → p .first t ≤ p .first (t + k)
   first-rises t zero = let e : p .first (t + 0) ≡ p .first t = ap (p .first) (omega arith) in omega arith
   first-rises t (suc k) =
       let e : p .first (t + suc k) ≡ p .first (t + k + 1) = ap (p .first) (omega arith) in

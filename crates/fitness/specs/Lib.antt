@@ -1,2 +1,3 @@
 pub mod Fitness
 pub mod Ended
+pub mod Rising

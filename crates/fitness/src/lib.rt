@@ -1,4 +1,7 @@
 // How good a placing is: its makespan and its total tardiness, weighed against each other.
+mod last_steps;
+
+pub use last_steps::fitness_by_last_steps;
 ghost use mathlib.Core.Path.{_≡_};
 ghost use Prim.Native.Nat.{_+_, _≤_, _^_};
 ghost use lib.ListN.{length, getD};
@@ -15,6 +18,13 @@ use plan::Layout;
 pub struct Sums {
     pub makespan: u64,
     pub late: u64,
+}
+
+// Of a task: the word that says whether it has a deadline, the deadline's word, and how many steps it has.
+pub struct Row {
+    pub dated: u32,
+    pub deadline: u32,
+    pub steps: u32,
 }
 
 // When a task is complete: the latest end of its activities.

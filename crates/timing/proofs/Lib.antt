@@ -10,3 +10,4 @@ pub mod EndLaws
 pub mod SpanLaws
 pub mod PlacingLaws
 pub mod TimedLaws
+pub mod RisingLaws
