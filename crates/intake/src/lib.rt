@@ -91,9 +91,9 @@ pub fn take_in(s: &[u8], table: &mut [usize]) -> Reading
 }
 
 // Room for the tables, all zeros.
-pub fn table_room() -> [usize; 4739]
+pub fn table_room() -> [usize; 6787]
     ensures length { λ r. ⌜ cells ≡ length r ⌝ }
     ensures zeros { λ r. ⌜ r ≡ replicate cells 0 ⌝ }
 {
-    [0; 4739]
+    [0; 6787]
 }

@@ -5,5 +5,6 @@ pub mod ColumnLaws
 pub mod TaskLaws
 pub mod ChangeLaws
 pub mod RegionLaws
+pub mod SpanLaws
 pub mod PartLaws
 pub mod TableLaws

@@ -1,5 +1,5 @@
 -- The whole table, once its parts were lent and filled.
-use Prim.Native.Nat.{ℕ, _+_, _≤_, _<_}
+use Prim.Native.Nat.{ℕ, _+_, _*_, _≤_, _<_}
 use mathlib.Core.Path.{_≡_, sym, ap, _∙_, subst}
 use mathlib.Core.List.{List}
 use native.Mathlib.Omega.{arith}
@@ -7,9 +7,9 @@ use lib.ListN.{length, getD, take, drop}
 use Rattle.plan.specs.Problem.{Problem}
 use Rattle.plan.specs.Input.{problemOf, count}
 use Rattle.plan.specs.declared.Layout.{Layout}
-use Rattle.tables.specs.Tabled.{nextOf, waitsOf, changeCode, Listed, Tabled}
+use Rattle.tables.specs.Tabled.{nextOf, waitsOf, changeCode, ownSpan, Listed, Tabled}
 use Rattle.tables.specs.Regions.{region, cells}
-use Rattle.tables.specs.Columns.{Filled, Coded, cellOf}
+use Rattle.tables.specs.Columns.{Filled, Coded, Spanned, cellOf}
 use Rattle.tables.specs.Parts.{Activities, Namings, Steps}
 use Rattle.tables.proofs.RegionLaws.{laid, lent, nested, rest-is}
 
@@ -40,8 +40,9 @@ module _ (p : Problem) (table steps able : List ℕ) (first : region table 0 141
 
   pub tabled-parts : length table ≡ cells → Steps p steps → length able ≡ 2177 → Listed (p .n) (p .candidates) (take 129 able) (drop 129 able)
       → ((m before own : ℕ) → m < 16 → before < 9 → own < 8 → getD (region table 3587 1152) (cellOf m before own) 0 ≡ changeCode (p .change m before own))
+      → ((a m : ℕ) → a < p .n → m < p .machines → getD (region table 4739 2048) (16 * a + m) 0 ≡ ownSpan p a m)
       → Tabled p table
-  tabled-parts sized s long c changed =
+  tabled-parts sized s long c changed spanned =
       record {
         sized = sized;
         owned = subst (λ (l : List ℕ). Filled (p .n) (p .taskOf) l) (in-activities 0 (omega arith)) (s .activities .owned) .at;
@@ -60,20 +61,28 @@ module _ (p : Problem) (table steps able : List ℕ) (first : region table 0 141
             (subst (λ (l : List ℕ). Listed (p .n) (p .candidates) (take 129 able) l)
             (sym (rest-is able 129 2048 (omega arith)) ∙ nested table able 1410 2177 129 2048 1539 second (omega arith) (omega arith)) c);
         changed = changed;
+        spanned = spanned;
       }
 
-pub tabled-laid : (ws : List ℕ) (z : Layout) (xs steps able changes : List ℕ) → length xs ≡ cells → length steps ≡ length (region xs 0 1410)
+pub tabled-laid : (ws : List ℕ) (z : Layout) (xs steps able changes spans : List ℕ) → length xs ≡ cells → length steps ≡ length (region xs 0 1410)
     → length able ≡ length (region (laid 0 1410 xs steps) 1410 2177) → length changes ≡ length (region (laid 1410 2177 (laid 0 1410 xs steps) able) 3587 1152)
+    → length spans ≡ length (region (laid 3587 1152 (laid 1410 2177 (laid 0 1410 xs steps) able) changes) 4739 2048)
     → Steps (problemOf ws z) steps → Listed (z .activities) (problemOf ws z .candidates) (take 129 able) (drop 129 able)
-    → Coded ws (count ws z (z .at .setups)) (z .at .setups + 1) changes
-    → Tabled (problemOf ws z) (laid 3587 1152 (laid 1410 2177 (laid 0 1410 xs steps) able) changes)
-tabled-laid ws z xs steps able changes long steps-kept able-kept changes-kept s c k =
+    → Coded ws (count ws z (z .at .setups)) (z .at .setups + 1) changes → Spanned (problemOf ws z) (z .activities) spans
+    → Tabled (problemOf ws z) (laid 4739 2048 (laid 3587 1152 (laid 1410 2177 (laid 0 1410 xs steps) able) changes) spans)
+tabled-laid ws z xs steps able changes spans long steps-kept able-kept changes-kept spans-kept s c k o =
     let x1 = laid 0 1410 xs steps in
     let x2 = laid 1410 2177 x1 able in
     let x3 = laid 3587 1152 x2 changes in
+    let x4 = laid 4739 2048 x3 spans in
     let l1 = lent 0 1410 xs steps (omega arith) steps-kept in
     let l2 = lent 1410 2177 x1 able (omega (arith, l1 .whole)) able-kept in
     let l3 = lent 3587 1152 x2 changes (omega (arith, l1 .whole, l2 .whole)) changes-kept in
-    tabled-parts (problemOf ws z) x3 steps able (l3 .earlier 0 1410 (omega arith) ∙ l2 .earlier 0 1410 (omega arith) ∙ l1 .inside)
-    (l3 .earlier 1410 2177 (omega arith) ∙ l2 .inside) (l3 .whole ∙ l2 .whole ∙ l1 .whole ∙ long) s (l2 .part) c (λ m b o hm hb ho.
-    ap (λ (l : List ℕ). getD l (cellOf m b o) 0) (l3 .inside) ∙ k .codes m b o hm hb ho)
+    let l4 = lent 4739 2048 x3 spans (omega (arith, l1 .whole, l2 .whole, l3 .whole)) spans-kept in
+    tabled-parts (problemOf ws z) x4 steps able
+    (l4 .earlier 0 1410 (omega arith) ∙ l3 .earlier 0 1410 (omega arith) ∙ l2 .earlier 0 1410 (omega arith) ∙ l1 .inside)
+    (l4 .earlier 1410 2177 (omega arith) ∙ l3 .earlier 1410 2177 (omega arith) ∙ l2 .inside)
+    (l4 .whole ∙ l3 .whole ∙ l2 .whole ∙ l1 .whole ∙ long) s (l2 .part) c
+    (λ m b o hm hb ho.
+    ap (λ (l : List ℕ). getD l (cellOf m b o) 0) (l4 .earlier 3587 1152 (omega arith) ∙ l3 .inside) ∙ k .codes m b o hm hb ho)
+    (λ a m ha hm. ap (λ (l : List ℕ). getD l (16 * a + m) 0) (l4 .inside) ∙ o .at a m ha hm)

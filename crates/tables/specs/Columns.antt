@@ -7,9 +7,10 @@ use lib.Dec.{eqb, ltb}
 use lib.ListN.{getD, set}
 use Rattle.graph.specs.Counting.{bit}
 use Rattle.grammar.specs.Rules.{totalFrom}
+use Rattle.plan.specs.Problem.{Problem}
 use Rattle.plan.specs.Input.{cell, changeFrom}
 use Rattle.plan.specs.declared.Layout.{Layout}
-use Rattle.tables.specs.Tabled.{changeCode}
+use Rattle.tables.specs.Tabled.{changeCode, ownSpan}
 use Rattle.tables.specs.declared.Place.{Place}
 
 -- Every second word from `at` on, n of them.
@@ -49,3 +50,11 @@ changePut ws at l = set l (cellOf (getD ws at 0) (getD ws (at + 1) 0) (getD ws (
 pub record Coded (ws : List ℕ) (n at : ℕ) (list : List ℕ) : Type 0 where
   pub codes : (m before own : ℕ) → m < 16 → before < 9 → own < 8
       → getD list (cellOf m before own) 0 ≡ changeCode (changeFrom ws n at m before own)
+
+-- The sum of three words that follow each other.
+abbrev pub rowSum : (words : List ℕ) → ℕ → ℕ
+rowSum ws at = getD ws at 0 + getD ws (at + 1) 0 + getD ws (at + 2) 0
+
+-- Sixteen cells for each of the first k activities hold how long it takes on each machine.
+pub record Spanned (p : Problem) (k : ℕ) (list : List ℕ) : Type 0 where
+  pub at : (a m : ℕ) → a < k → m < p .machines → getD list (16 * a + m) 0 ≡ ownSpan p a m

@@ -43,6 +43,9 @@ candidates table = region table 1539 2048
 abbrev pub changes : List ℕ → List ℕ
 changes table = region table 3587 1152
 
+abbrev pub spans : List ℕ → List ℕ
+spans table = region table 4739 2048
+
 -- How many cells there are in all.
 abbrev pub cells : ℕ
-cells = 4739
+cells = 6787

@@ -10,7 +10,7 @@ use Rattle.graph.specs.Links.{toIf, linked, partOf}
 use Rattle.graph.specs.declared.Link.{Link}
 use Rattle.graph.specs.declared.Link.the-variants.{Nothing}
 use Rattle.plan.specs.Problem.{Problem}
-use Rattle.tables.specs.Regions.{owners, nexts, releases, categories, waits, namedAt, named, waitingAt, waiting, candidatesAt, candidates, changes, cells}
+use Rattle.tables.specs.Regions.{owners, nexts, releases, categories, waits, namedAt, named, waitingAt, waiting, candidatesAt, candidates, changes, spans, cells}
 
 -- The step before and the step after in the same task.
 abbrev pub taskPred : Problem → ℕ → Link
@@ -36,6 +36,10 @@ abbrev pub changeCode : Option ℕ → ℕ
 changeCode none = 0
 changeCode (some x) = x + 1
 
+-- How long an activity takes on a machine with its own setup.
+abbrev pub ownSpan : Problem → (activity machine : ℕ) → ℕ
+ownSpan p a m = p .setup a m + p .process a m + p .teardown a m
+
 -- A list for each of n activities, as the part of one list between two offsets.
 pub record Listed (n : ℕ) (f : ℕ → List ℕ) (at list : List ℕ) : Type 0 where
   pub parts : (a : ℕ) → a < n → partOf at list a ≡ f a
@@ -54,3 +58,4 @@ pub record Tabled (p : Problem) (table : List ℕ) : Type 0 where
   pub able : Listed (p .n) (p .candidates) (candidatesAt table) (candidates table)
   pub changed : (m before own : ℕ) → m < 16 → before < 9 → own < 8
       → getD (changes table) (72 * m + 8 * before + own) 0 ≡ changeCode (p .change m before own)
+  pub spanned : (a m : ℕ) → a < p .n → m < p .machines → getD (spans table) (16 * a + m) 0 ≡ ownSpan p a m

@@ -4,6 +4,7 @@ mod lists;
 mod lookups;
 mod namings;
 mod owners;
+mod spans;
 
 use crate::changes::fill_changes;
 use crate::namings::fill_candidates;
@@ -12,6 +13,7 @@ use crate::owners::fill_categories;
 use crate::owners::fill_nexts;
 use crate::owners::fill_owners;
 use crate::owners::fill_releases;
+use crate::spans::fill_spans;
 pub use lists::copy;
 pub use lookups::before_of;
 pub use lookups::candidates_of;
@@ -19,6 +21,7 @@ pub use lookups::category_of;
 pub use lookups::change_of;
 pub use lookups::named_by;
 pub use lookups::next_of;
+pub use lookups::own_span;
 pub use lookups::owner;
 pub use lookups::release;
 pub use lookups::waiting_for;
@@ -71,7 +74,9 @@ pub const CANDIDATES: usize = 1539;
 
 pub const CHANGES: usize = 3587;
 
-pub const CELLS: usize = 4739;
+pub const SPANS: usize = 4739;
+
+pub const CELLS: usize = 6787;
 
 // Fills owners, next steps, releases and categories.
 fn fill_activities(s: &[u8], z: Layout, owners: &[usize], part: &mut [usize])
@@ -102,5 +107,6 @@ pub fn fill(s: &[u8], z: Layout, table: &mut [usize])
 {
     fill_steps(s, z, &mut table[OWNERS..CANDIDATES_AT]);
     fill_candidates(s, z, &mut table[CANDIDATES_AT..CHANGES]);
-    fill_changes(s, z, &mut table[CHANGES..CELLS]);
+    fill_changes(s, z, &mut table[CHANGES..SPANS]);
+    fill_spans(s, z, &mut table[SPANS..CELLS]);
 }

@@ -6,7 +6,7 @@ ghost use Prim.Native.Nat.{_+_, _-_, _*_, _≤_, _<_};
 ghost use lib.ListN.{length, getD, take, drop};
 ghost use Rattle.plan.specs.Problem.{Problem};
 ghost use Rattle.tables.specs.Regions.{cells};
-ghost use Rattle.tables.specs.Tabled.{Tabled, taskPred, taskSucc};
+ghost use Rattle.tables.specs.Tabled.{Tabled, taskPred, taskSucc, ownSpan};
 ghost use Rattle.tables.specs.Found.{changeOf, Held};
 
 // The task of an activity.
@@ -69,6 +69,14 @@ pub fn change_of(table: &[usize], m: usize, before: usize, own: usize) -> Change
         return Change::Own;
     }
     Change::To((code - 1) as u64)
+}
+
+// How long an activity takes on a machine with its own setup.
+pub fn own_span(table: &[usize], a: usize, m: usize) -> u64
+    requires { ⌜ (a < 128) × (m < 16) × (length (now table) ≡ cells) ⌝ }
+    ensures { λ r. ⌜ ((p : Problem) → Tabled p (now (table .entry)) → a < p .n → m < p .machines → r ≡ ownSpan p a m) ⌝ }
+{
+    table[crate::SPANS + 16 * a + m] as u64
 }
 
 // The numbers of an activity in a list that is cut by offsets.
