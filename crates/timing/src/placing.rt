@@ -30,39 +30,6 @@ pub fn machine_before(step: Link, machines: &[usize]) -> usize
     machines[q]
 }
 
-// The sum of three words that follow each other.
-fn sum_words(s: &[u8], first: usize) -> u64
-    requires { ⌜ first < 2 ^ 40 ⌝ }
-    ensures { λ r. ⌜ r ≡ getD (words (now (s .entry))) first 0 + getD (words (now (s .entry))) (first + 1) 0 + getD (words (now (s .entry))) (first + 2) 0 ⌝ }
-{
-    let setup = words::word(s, first) as u64;
-    let process = words::word(s, first + 1) as u64;
-    let teardown = words::word(s, first + 2) as u64;
-    setup + process + teardown
-}
-
-// The same, quicker: of a part that has three words it is tested once, not for each, that they are there.
-fn sum_row(s: &[u8], first: usize) -> u64
-    requires { ⌜ first < 2 ^ 40 ⌝ }
-    ensures { λ r. ⌜ r ≡ getD (words (now (s .entry))) first 0 + getD (words (now (s .entry))) (first + 1) 0 + getD (words (now (s .entry))) (first + 2) 0 ⌝ }
-{
-    let from = 4 * first;
-    let to = from + 12;
-    if s.len() < to {
-        return sum_words(s, first);
-    }
-    sum_words(&s[from..to], 0)
-}
-
-// How long an activity takes on a machine with its own setup.
-fn own_span(s: &[u8], z: Layout, a: usize, m: usize) -> u64
-    requires { ⌜ Placed z × (a < 2 ^ 16) × (m < 2 ^ 16) ⌝ }
-    ensures { λ r. ⌜ r ≡ spanOf (problemOf (words (now (s .entry))) z) a m (problemOf (words (now (s .entry))) z .setup a m) ⌝ }
-{
-    let e = a * z.machines + m;
-    sum_row(s, z.at.times + 1 + 3 * e)
-}
-
 // How long an activity takes on a machine after another.
 pub fn span_after(s: &[u8], z: Layout, table: &[usize], a: usize, m: usize, line: Link) -> u64
     requires { ⌜ Placed z × Accepted (problemOf (words (now s)) z) (genesOf (words (now s)) z) × Tabled (problemOf (words (now s)) z) (now table) ⌝ }
@@ -93,7 +60,7 @@ fn span_on(s: &[u8], z: Layout, table: &[usize], own: bool, a: usize, m: usize, 
     ensures { λ r. ⌜ r ≡ spanOf (problemOf (words (now (s .entry))) z) a m (setupOf (problemOf (words (now (s .entry))) z) a m line) ⌝ }
 {
     if own {
-        return own_span(s, z, a, m);
+        return tables::own_span(table, a, m);
     }
     span_after(s, z, table, a, m, line)
 }

@@ -12,12 +12,11 @@ use Rattle.timing.proofs.placing.span_on.Statement.{statement}
 use Rattle.timing.proofs.placing.span_on.Tie as tie
 
 own-span-requires : tie.Need-own-span-requires
-own-span-requires c κs =
-    (c .before .before .before .pre .0 .0, omega (arith, c .before .before .before .pre .1 .0, c .before .before .before .pre .0 .1 .activities .1), omega (arith, c .before .before .before .pre .1 .1, c .before .before .before .pre .0 .1 .machines .1))
+own-span-requires c κs = (omega (arith, c .before .before .before .pre .1 .0, c .before .before .before .pre .0 .1 .activities .1), omega (arith, c .before .before .before .pre .1 .1, c .before .before .before .pre .0 .1 .machines .1), c .before .before .before .pre .0 .2 .sized)
 
 returns : tie.Need-returns
 returns c =
-    c .own-span .ensures
+    c .own-span .ensures (problemOf (words (now (c .before .before .before .before .args .s))) (c .before .before .before .before .args .z)) (c .before .before .before .before .pre .0 .2) (c .before .before .before .before .pre .1 .0) (c .before .before .before .before .pre .1 .1)
     ∙ ap (λ (x : ℕ). spanOf (problemOf (words (now (c .before .before .before .before .args .s))) (c .before .before .before .before .args .z)) (c .before .before .before .before .args .a) (c .before .before .before .before .args .m) x)
     (own-counts (words (now (c .before .before .before .before .args .s))) (c .before .before .before .before .args .z) (c .before .before .before .before .args .a) (c .before .before .before .before .args .m) (c .before .before .before .before .args .line) (c .before .before .before .before .pre .0 .3 (c .before .if1 .taken)))
 
