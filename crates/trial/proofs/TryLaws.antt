@@ -9,6 +9,7 @@ use lib.ListN.{length, getD, drop, length-drop}
 use lib.Seq.{drop-cons, length-take-le}
 use Rattle.plan.specs.Problem.{Problem}
 use Rattle.lines.specs.Lines.{Lines, linesIn}
+use Rattle.lines.specs.Linking.{linksOf, LinesHeld}
 use Rattle.moves.specs.declared.Move.{Move}
 use Rattle.moves.specs.declared.Move.the-variants.{Swap, Shift, Reassign}
 use Rattle.moves.specs.Moves.{Holds, Fits, stretches}
@@ -78,6 +79,7 @@ pub record Trying (p : Problem) (n : ℕ) (lines : Lines) (lens : List ℕ) (for
   pub same : linesIn cells lens ≡ lines
   pub long : length cells ≡ 2048
   pub rooms : Rooms n before after machines places order starts ends
+  pub linked : LinesHeld n lines (linksOf before after machines places)
   pub kept : Kept n taken begun done
   pub holding : Holding p lines b taken begun done
   pub rest : triedAll p lines forbid best (movesOf (drop k (ranked three))) b ≡ triedAll p lines forbid best (movesOf (ranked three)) b₀

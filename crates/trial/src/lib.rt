@@ -13,10 +13,12 @@ ghost use Rattle.plan.specs.Input.{problemOf, genesOf};
 ghost use Rattle.plan.specs.Accepted.{Accepted};
 ghost use Rattle.plan.specs.Found.{Placed, Weighed};
 ghost use Rattle.lines.specs.Lines.{linesIn, WellFormed};
+ghost use Rattle.lines.specs.Linking.{linksOf, LinesHeld};
 ghost use Rattle.moves.specs.Moves.{applied};
 ghost use Rattle.ranking.specs.Ranking.{ranked};
 ghost use Rattle.fitness.specs.Fitness.{fitnessOf};
 ghost use Rattle.fitness.specs.Ended.{Ended};
+ghost use Rattle.fitness.specs.Rising.{Rising};
 ghost use Rattle.timing.specs.Timing.{contradicts};
 ghost use Rattle.timing.specs.Placing.{Timed, Rooms};
 ghost use Rattle.trial.specs.declared.Best.the-variants.{Nothing};
@@ -121,14 +123,15 @@ fn weigh_move(
     begun: &mut [u64],
     done: &mut [u64],
 ) -> Best
-    requires { ⌜ Placed z × Accepted (problemOf (words (now s)) z) (genesOf (words (now s)) z) × Weighed (words (now s)) z × Ended (z .activities) (now ends) ⌝ }
+    requires { ⌜ Placed z × Accepted (problemOf (words (now s)) z) (genesOf (words (now s)) z) × Weighed (words (now s)) z ⌝ }
+    requires { ⌜ Ended (z .activities) (now ends) × Rising (problemOf (words (now s)) z) (now ends) ⌝ }
     requires { ⌜ Kept (z .activities) (now order) (now starts) (now ends) × Kept (z .activities) (now taken) (now begun) (now done) ⌝ }
     ensures answer { λ r. ⌜ r ≡ weighed false forbidden best (fitnessOf (problemOf (words (now (s .entry))) z) (λ a. getD (now (ends .entry)) a 0)) m held ⌝ }
     ensures order { λ _. ⌜ now (taken .exit) ≡ pickList (counts forbidden best (fitnessOf (problemOf (words (now (s .entry))) z) (λ a. getD (now (ends .entry)) a 0)) held) (now (order .entry)) (now (taken .entry)) ⌝ }
     ensures starts { λ _. ⌜ now (begun .exit) ≡ pickList (counts forbidden best (fitnessOf (problemOf (words (now (s .entry))) z) (λ a. getD (now (ends .entry)) a 0)) held) (now (starts .entry)) (now (begun .entry)) ⌝ }
     ensures ends { λ _. ⌜ now (done .exit) ≡ pickList (counts forbidden best (fitnessOf (problemOf (words (now (s .entry))) z) (λ a. getD (now (ends .entry)) a 0)) held) (now (ends .entry)) (now (done .entry)) ⌝ }
 {
-    let fitness = fitness::fitness_of(s, z, ends);
+    let fitness = fitness::fitness_by_last_steps(s, z, ends);
     if !counts(forbidden, best, fitness, held) {
         return held;
     }
@@ -138,12 +141,13 @@ fn weigh_move(
     Best::Found(fitness, m)
 }
 
-// Times the lines as a move would leave them: false where they contradict. The lines stay as they are; cells past a line's length do not.
+// Times the lines as a move would leave them: false where they contradict. The lines stay as they are, and so do their links; cells past a
+// line's length do not.
 fn time_move(
     s: &[u8],
     z: Layout,
     table: &[usize],
-    ways: [[u32; 16]; 16],
+    ways: &[[u32; 16]; 16],
     m: Move,
     cells: &mut [usize],
     lens: [usize; 16],
@@ -155,29 +159,33 @@ fn time_move(
     starts: &mut [u64],
     ends: &mut [u64],
 ) -> bool
-    requires { ⌜ Ready (now s) z (now table) ways × (length (now cells) ≡ 2048) × WellFormed (z .activities) (z .machines) (linesIn (now cells) lens) × Allowed (z .machines) (linesIn (now cells) lens) m ⌝ }
-    requires { ⌜ Rooms (z .activities) (now before) (now after) (now machines) (now places) (now order) (now starts) (now ends) ⌝ }
+    requires { ⌜ Ready (now s) z (now table) (now ways) × (length (now cells) ≡ 2048) × WellFormed (z .activities) (z .machines) (linesIn (now cells) lens) × Allowed (z .machines) (linesIn (now cells) lens) m ⌝ }
+    requires { ⌜ Rooms (z .activities) (now before) (now after) (now machines) (now places) (now order) (now starts) (now ends) × LinesHeld (z .activities) (linesIn (now cells) lens) (linksOf (now before) (now after) (now machines) (now places)) ⌝ }
     ensures answer { λ r. ⌜ r ≡ not (contradicts (problemOf (words (now (s .entry))) z) (applied m (linesIn (now (cells .entry)) lens))) ⌝ }
     ensures timed { λ r. ⌜ (r ≡ true → Timed (problemOf (words (now (s .entry))) z) (applied m (linesIn (now (cells .entry)) lens)) (now (order .exit)) (now (starts .exit)) (now (ends .exit))) ⌝ }
     ensures lines { λ _. ⌜ linesIn (now (cells .exit)) lens ≡ linesIn (now (cells .entry)) lens ⌝ }
+    ensures linked { λ _. ⌜ LinesHeld (z .activities) (linesIn (now (cells .entry)) lens) (linksOf (now (before .exit)) (now (after .exit)) (now (machines .exit)) (now (places .exit))) ⌝ }
 {
+    let n = z.activities;
     let moved = moves::apply(m, cells, lens);
-    let possible = timing::time_sequences(
+    moves::relink(m, n, cells, &moved, before, after, machines, places);
+    let possible = timing::time_linked(
         s,
         z,
         table,
         ways,
         cells,
-        moved,
+        &moved,
         before,
         after,
         machines,
-        places,
         order,
         starts,
         ends,
     );
-    moves::apply(moves::reverse(m), cells, moved);
+    let back = moves::reverse(m);
+    moves::apply(back, cells, moved);
+    moves::relink(back, n, cells, &lens, before, after, machines, places);
     possible
 }
 
@@ -186,7 +194,7 @@ fn try_move(
     s: &[u8],
     z: Layout,
     table: &[usize],
-    ways: [[u32; 16]; 16],
+    ways: &[[u32; 16]; 16],
     m: Move,
     forbidden: bool,
     best: f64,
@@ -204,12 +212,13 @@ fn try_move(
     begun: &mut [u64],
     done: &mut [u64],
 ) -> Best
-    requires { ⌜ Ready (now s) z (now table) ways × (length (now cells) ≡ 2048) × WellFormed (z .activities) (z .machines) (linesIn (now cells) lens) × Allowed (z .machines) (linesIn (now cells) lens) m ⌝ }
-    requires { ⌜ Rooms (z .activities) (now before) (now after) (now machines) (now places) (now order) (now starts) (now ends) ⌝ }
+    requires { ⌜ Ready (now s) z (now table) (now ways) × (length (now cells) ≡ 2048) × WellFormed (z .activities) (z .machines) (linesIn (now cells) lens) × Allowed (z .machines) (linesIn (now cells) lens) m ⌝ }
+    requires { ⌜ Rooms (z .activities) (now before) (now after) (now machines) (now places) (now order) (now starts) (now ends) × LinesHeld (z .activities) (linesIn (now cells) lens) (linksOf (now before) (now after) (now machines) (now places)) ⌝ }
     requires { ⌜ Kept (z .activities) (now taken) (now begun) (now done) × Holding (problemOf (words (now s)) z) (linesIn (now cells) lens) held (now taken) (now begun) (now done) ⌝ }
     ensures answer { λ r. ⌜ r ≡ tried (problemOf (words (now (s .entry))) z) (linesIn (now (cells .entry)) lens) forbidden best m held ⌝ }
     ensures holding { λ r. ⌜ Holding (problemOf (words (now (s .entry))) z) (linesIn (now (cells .entry)) lens) r (now (taken .exit)) (now (begun .exit)) (now (done .exit)) ⌝ }
     ensures lines { λ _. ⌜ linesIn (now (cells .exit)) lens ≡ linesIn (now (cells .entry)) lens ⌝ }
+    ensures linked { λ _. ⌜ LinesHeld (z .activities) (linesIn (now (cells .entry)) lens) (linksOf (now (before .exit)) (now (after .exit)) (now (machines .exit)) (now (places .exit))) ⌝ }
 {
     if !time_move(
         s,
@@ -246,12 +255,12 @@ fn try_move(
 }
 
 // Tries up to three moves in turn, after what is held. `best` is the best ever. The timing of the one answered is kept in the last three
-// buffers; the seven before them are work space, and the lines stay as they are.
+// buffers; the three before them are work space. The lines stay as they are, and so do their links.
 pub fn try_three(
     s: &[u8],
     z: Layout,
     table: &[usize],
-    ways: [[u32; 16]; 16],
+    ways: &[[u32; 16]; 16],
     three: Three,
     step: usize,
     pairs: [Taboo; 6],
@@ -271,12 +280,13 @@ pub fn try_three(
     begun: &mut [u64],
     done: &mut [u64],
 ) -> Best
-    requires { ⌜ Ready (now s) z (now table) ways × (length (now cells) ≡ 2048) × WellFormed (z .activities) (z .machines) (linesIn (now cells) lens) × AllAllowed (z .machines) (linesIn (now cells) lens) three ⌝ }
-    requires { ⌜ Rooms (z .activities) (now before) (now after) (now machines) (now places) (now order) (now starts) (now ends) ⌝ }
+    requires { ⌜ Ready (now s) z (now table) (now ways) × (length (now cells) ≡ 2048) × WellFormed (z .activities) (z .machines) (linesIn (now cells) lens) × AllAllowed (z .machines) (linesIn (now cells) lens) three ⌝ }
+    requires { ⌜ Rooms (z .activities) (now before) (now after) (now machines) (now places) (now order) (now starts) (now ends) × LinesHeld (z .activities) (linesIn (now cells) lens) (linksOf (now before) (now after) (now machines) (now places)) ⌝ }
     requires { ⌜ Kept (z .activities) (now taken) (now begun) (now done) × Holding (problemOf (words (now s)) z) (linesIn (now cells) lens) held (now taken) (now begun) (now done) ⌝ }
     ensures answer { λ r. ⌜ r ≡ triedAll (problemOf (words (now (s .entry))) z) (linesIn (now (cells .entry)) lens) (forbidden step pairs left (linesIn (now (cells .entry)) lens)) best (movesOf (ranked three)) held ⌝ }
     ensures holding { λ r. ⌜ Holding (problemOf (words (now (s .entry))) z) (linesIn (now (cells .entry)) lens) r (now (taken .exit)) (now (begun .exit)) (now (done .exit)) ⌝ }
     ensures lines { λ _. ⌜ linesIn (now (cells .exit)) lens ≡ linesIn (now (cells .entry)) lens ⌝ }
+    ensures linked { λ _. ⌜ LinesHeld (z .activities) (linesIn (now (cells .entry)) lens) (linksOf (now (before .exit)) (now (after .exit)) (now (machines .exit)) (now (places .exit))) ⌝ }
 {
     let mut kept = held;
     let mut k = 0;

@@ -15,15 +15,15 @@ use borrow.Author.Needs.{needs}
 use Rattle.trial.proofs.weigh_move.Statement.{statement}
 use Rattle.trial.proofs.weigh_move.Tie as tie
 
-fitness-of-requires : tie.Need-fitness-of-requires
-fitness-of-requires c κs = search needs
+fitness-by-last-steps-requires : tie.Need-fitness-by-last-steps-requires
+fitness-by-last-steps-requires c κs = search needs
 
 counts-requires : tie.Need-counts-requires
 counts-requires c κs = search needs
 
 returns : tie.Need-returns
 returns c =
-    let e : (counts (c .before .before .before .before .before .before .before .before .before .before .args .forbidden) (c .before .before .before .before .before .before .before .before .before .before .args .best) (fitnessOf (problemOf (words (now (c .before .before .before .before .before .before .before .before .before .before .args .s))) (c .before .before .before .before .before .before .before .before .before .before .args .z)) (λ a. getD (now (c .before .before .before .before .before .before .before .before .before .before .args .ends)) a 0)) (c .before .before .before .before .before .before .before .before .before .before .args .held)) ≡ false = ap (λ (f : Float). counts (c .before .before .before .before .before .before .before .before .before .before .args .forbidden) (c .before .before .before .before .before .before .before .before .before .before .args .best) f (c .before .before .before .before .before .before .before .before .before .before .args .held)) (sym (c .before .before .fitness-of .ensures)) ∙ sym (c .before .counts .ensures) ∙ denied _ (c .if1 .taken) in
+    let e : (counts (c .before .before .before .before .before .before .before .before .before .before .args .forbidden) (c .before .before .before .before .before .before .before .before .before .before .args .best) (fitnessOf (problemOf (words (now (c .before .before .before .before .before .before .before .before .before .before .args .s))) (c .before .before .before .before .before .before .before .before .before .before .args .z)) (λ a. getD (now (c .before .before .before .before .before .before .before .before .before .before .args .ends)) a 0)) (c .before .before .before .before .before .before .before .before .before .before .args .held)) ≡ false = ap (λ (f : Float). counts (c .before .before .before .before .before .before .before .before .before .before .args .forbidden) (c .before .before .before .before .before .before .before .before .before .before .args .best) f (c .before .before .before .before .before .before .before .before .before .before .args .held)) (sym (c .before .before .fitness-by-last-steps .ensures)) ∙ sym (c .before .counts .ensures) ∙ denied _ (c .if1 .taken) in
     (weighed-kept (c .before .before .before .before .before .before .before .before .before .before .args .forbidden) (c .before .before .before .before .before .before .before .before .before .before .args .best) (fitnessOf (problemOf (words (now (c .before .before .before .before .before .before .before .before .before .before .args .s))) (c .before .before .before .before .before .before .before .before .before .before .args .z)) (λ a. getD (now (c .before .before .before .before .before .before .before .before .before .before .args .ends)) a 0)) (c .before .before .before .before .before .before .before .before .before .before .args .m) (c .before .before .before .before .before .before .before .before .before .before .args .held) e, (list-kept (counts (c .before .before .before .before .before .before .before .before .before .before .args .forbidden) (c .before .before .before .before .before .before .before .before .before .before .args .best) (fitnessOf (problemOf (words (now (c .before .before .before .before .before .before .before .before .before .before .args .s))) (c .before .before .before .before .before .before .before .before .before .before .args .z)) (λ a. getD (now (c .before .before .before .before .before .before .before .before .before .before .args .ends)) a 0)) (c .before .before .before .before .before .before .before .before .before .before .args .held)) _ _ e, (list-kept (counts (c .before .before .before .before .before .before .before .before .before .before .args .forbidden) (c .before .before .before .before .before .before .before .before .before .before .args .best) (fitnessOf (problemOf (words (now (c .before .before .before .before .before .before .before .before .before .before .args .s))) (c .before .before .before .before .before .before .before .before .before .before .args .z)) (λ a. getD (now (c .before .before .before .before .before .before .before .before .before .before .args .ends)) a 0)) (c .before .before .before .before .before .before .before .before .before .before .args .held)) _ _ e, list-kept (counts (c .before .before .before .before .before .before .before .before .before .before .args .forbidden) (c .before .before .before .before .before .before .before .before .before .before .args .best) (fitnessOf (problemOf (words (now (c .before .before .before .before .before .before .before .before .before .before .args .s))) (c .before .before .before .before .before .before .before .before .before .before .args .z)) (λ a. getD (now (c .before .before .before .before .before .before .before .before .before .before .args .ends)) a 0)) (c .before .before .before .before .before .before .before .before .before .before .args .held)) _ _ e)))
 
 copy-requires : tie.Need-copy-requires
@@ -46,14 +46,14 @@ same-length-3 c = search needs
 
 returns-2 : tie.Need-returns-2
 returns-2 c =
-    let e : (counts (c .before .before .before .before .before .before .before .before .before .before .before .before .before .before .before .before .before .before .before .before .before .before .args .forbidden) (c .before .before .before .before .before .before .before .before .before .before .before .before .before .before .before .before .before .before .before .before .before .before .args .best) (fitnessOf (problemOf (words (now (c .before .before .before .before .before .before .before .before .before .before .before .before .before .before .before .before .before .before .before .before .before .before .args .s))) (c .before .before .before .before .before .before .before .before .before .before .before .before .before .before .before .before .before .before .before .before .before .before .args .z)) (λ a. getD (now (c .before .before .before .before .before .before .before .before .before .before .before .before .before .before .before .before .before .before .before .before .before .before .args .ends)) a 0)) (c .before .before .before .before .before .before .before .before .before .before .before .before .before .before .before .before .before .before .before .before .before .before .args .held)) ≡ true = ap (λ (f : Float). counts (c .before .before .before .before .before .before .before .before .before .before .before .before .before .before .before .before .before .before .before .before .before .before .args .forbidden) (c .before .before .before .before .before .before .before .before .before .before .before .before .before .before .before .before .before .before .before .before .before .before .args .best) f (c .before .before .before .before .before .before .before .before .before .before .before .before .before .before .before .before .before .before .before .before .before .before .args .held)) (sym (c .before .before .before .before .before .before .before .before .before .before .before .before .before .before .fitness-of .ensures)) ∙ sym (c .before .before .before .before .before .before .before .before .before .before .before .before .before .counts .ensures) ∙ granted _ (c .before .before .before .before .before .before .before .before .before .before .before .before .if1 .left) in
-    (ap (λ (f : Float). Found f (c .before .before .before .before .before .before .before .before .before .before .before .before .before .before .before .before .before .before .before .before .before .before .args .m)) (c .before .before .before .before .before .before .before .before .before .before .before .before .before .before .fitness-of .ensures) ∙ weighed-taken (c .before .before .before .before .before .before .before .before .before .before .before .before .before .before .before .before .before .before .before .before .before .before .args .forbidden) (c .before .before .before .before .before .before .before .before .before .before .before .before .before .before .before .before .before .before .before .before .before .before .args .best) (fitnessOf (problemOf (words (now (c .before .before .before .before .before .before .before .before .before .before .before .before .before .before .before .before .before .before .before .before .before .before .args .s))) (c .before .before .before .before .before .before .before .before .before .before .before .before .before .before .before .before .before .before .before .before .before .before .args .z)) (λ a. getD (now (c .before .before .before .before .before .before .before .before .before .before .before .before .before .before .before .before .before .before .before .before .before .before .args .ends)) a 0)) (c .before .before .before .before .before .before .before .before .before .before .before .before .before .before .before .before .before .before .before .before .before .before .args .m) (c .before .before .before .before .before .before .before .before .before .before .before .before .before .before .before .before .before .before .before .before .before .before .args .held) e, (c .before .before .before .before .before .before .before .before .before .before .copy .ensures ∙ list-taken (counts (c .before .before .before .before .before .before .before .before .before .before .before .before .before .before .before .before .before .before .before .before .before .before .args .forbidden) (c .before .before .before .before .before .before .before .before .before .before .before .before .before .before .before .before .before .before .before .before .before .before .args .best) (fitnessOf (problemOf (words (now (c .before .before .before .before .before .before .before .before .before .before .before .before .before .before .before .before .before .before .before .before .before .before .args .s))) (c .before .before .before .before .before .before .before .before .before .before .before .before .before .before .before .before .before .before .before .before .before .before .args .z)) (λ a. getD (now (c .before .before .before .before .before .before .before .before .before .before .before .before .before .before .before .before .before .before .before .before .before .before .args .ends)) a 0)) (c .before .before .before .before .before .before .before .before .before .before .before .before .before .before .before .before .before .before .before .before .before .before .args .held)) _ _ e, (c .before .before .before .before .before .before .copy-times .ensures ∙ list-taken (counts (c .before .before .before .before .before .before .before .before .before .before .before .before .before .before .before .before .before .before .before .before .before .before .args .forbidden) (c .before .before .before .before .before .before .before .before .before .before .before .before .before .before .before .before .before .before .before .before .before .before .args .best) (fitnessOf (problemOf (words (now (c .before .before .before .before .before .before .before .before .before .before .before .before .before .before .before .before .before .before .before .before .before .before .args .s))) (c .before .before .before .before .before .before .before .before .before .before .before .before .before .before .before .before .before .before .before .before .before .before .args .z)) (λ a. getD (now (c .before .before .before .before .before .before .before .before .before .before .before .before .before .before .before .before .before .before .before .before .before .before .args .ends)) a 0)) (c .before .before .before .before .before .before .before .before .before .before .before .before .before .before .before .before .before .before .before .before .before .before .args .held)) _ _ e, c .before .before .copy-times2 .ensures ∙ list-taken (counts (c .before .before .before .before .before .before .before .before .before .before .before .before .before .before .before .before .before .before .before .before .before .before .args .forbidden) (c .before .before .before .before .before .before .before .before .before .before .before .before .before .before .before .before .before .before .before .before .before .before .args .best) (fitnessOf (problemOf (words (now (c .before .before .before .before .before .before .before .before .before .before .before .before .before .before .before .before .before .before .before .before .before .before .args .s))) (c .before .before .before .before .before .before .before .before .before .before .before .before .before .before .before .before .before .before .before .before .before .before .args .z)) (λ a. getD (now (c .before .before .before .before .before .before .before .before .before .before .before .before .before .before .before .before .before .before .before .before .before .before .args .ends)) a 0)) (c .before .before .before .before .before .before .before .before .before .before .before .before .before .before .before .before .before .before .before .before .before .before .args .held)) _ _ e)))
+    let e : (counts (c .before .before .before .before .before .before .before .before .before .before .before .before .before .before .before .before .before .before .before .before .before .before .args .forbidden) (c .before .before .before .before .before .before .before .before .before .before .before .before .before .before .before .before .before .before .before .before .before .before .args .best) (fitnessOf (problemOf (words (now (c .before .before .before .before .before .before .before .before .before .before .before .before .before .before .before .before .before .before .before .before .before .before .args .s))) (c .before .before .before .before .before .before .before .before .before .before .before .before .before .before .before .before .before .before .before .before .before .before .args .z)) (λ a. getD (now (c .before .before .before .before .before .before .before .before .before .before .before .before .before .before .before .before .before .before .before .before .before .before .args .ends)) a 0)) (c .before .before .before .before .before .before .before .before .before .before .before .before .before .before .before .before .before .before .before .before .before .before .args .held)) ≡ true = ap (λ (f : Float). counts (c .before .before .before .before .before .before .before .before .before .before .before .before .before .before .before .before .before .before .before .before .before .before .args .forbidden) (c .before .before .before .before .before .before .before .before .before .before .before .before .before .before .before .before .before .before .before .before .before .before .args .best) f (c .before .before .before .before .before .before .before .before .before .before .before .before .before .before .before .before .before .before .before .before .before .before .args .held)) (sym (c .before .before .before .before .before .before .before .before .before .before .before .before .before .before .fitness-by-last-steps .ensures)) ∙ sym (c .before .before .before .before .before .before .before .before .before .before .before .before .before .counts .ensures) ∙ granted _ (c .before .before .before .before .before .before .before .before .before .before .before .before .if1 .left) in
+    (ap (λ (f : Float). Found f (c .before .before .before .before .before .before .before .before .before .before .before .before .before .before .before .before .before .before .before .before .before .before .args .m)) (c .before .before .before .before .before .before .before .before .before .before .before .before .before .before .fitness-by-last-steps .ensures) ∙ weighed-taken (c .before .before .before .before .before .before .before .before .before .before .before .before .before .before .before .before .before .before .before .before .before .before .args .forbidden) (c .before .before .before .before .before .before .before .before .before .before .before .before .before .before .before .before .before .before .before .before .before .before .args .best) (fitnessOf (problemOf (words (now (c .before .before .before .before .before .before .before .before .before .before .before .before .before .before .before .before .before .before .before .before .before .before .args .s))) (c .before .before .before .before .before .before .before .before .before .before .before .before .before .before .before .before .before .before .before .before .before .before .args .z)) (λ a. getD (now (c .before .before .before .before .before .before .before .before .before .before .before .before .before .before .before .before .before .before .before .before .before .before .args .ends)) a 0)) (c .before .before .before .before .before .before .before .before .before .before .before .before .before .before .before .before .before .before .before .before .before .before .args .m) (c .before .before .before .before .before .before .before .before .before .before .before .before .before .before .before .before .before .before .before .before .before .before .args .held) e, (c .before .before .before .before .before .before .before .before .before .before .copy .ensures ∙ list-taken (counts (c .before .before .before .before .before .before .before .before .before .before .before .before .before .before .before .before .before .before .before .before .before .before .args .forbidden) (c .before .before .before .before .before .before .before .before .before .before .before .before .before .before .before .before .before .before .before .before .before .before .args .best) (fitnessOf (problemOf (words (now (c .before .before .before .before .before .before .before .before .before .before .before .before .before .before .before .before .before .before .before .before .before .before .args .s))) (c .before .before .before .before .before .before .before .before .before .before .before .before .before .before .before .before .before .before .before .before .before .before .args .z)) (λ a. getD (now (c .before .before .before .before .before .before .before .before .before .before .before .before .before .before .before .before .before .before .before .before .before .before .args .ends)) a 0)) (c .before .before .before .before .before .before .before .before .before .before .before .before .before .before .before .before .before .before .before .before .before .before .args .held)) _ _ e, (c .before .before .before .before .before .before .copy-times .ensures ∙ list-taken (counts (c .before .before .before .before .before .before .before .before .before .before .before .before .before .before .before .before .before .before .before .before .before .before .args .forbidden) (c .before .before .before .before .before .before .before .before .before .before .before .before .before .before .before .before .before .before .before .before .before .before .args .best) (fitnessOf (problemOf (words (now (c .before .before .before .before .before .before .before .before .before .before .before .before .before .before .before .before .before .before .before .before .before .before .args .s))) (c .before .before .before .before .before .before .before .before .before .before .before .before .before .before .before .before .before .before .before .before .before .before .args .z)) (λ a. getD (now (c .before .before .before .before .before .before .before .before .before .before .before .before .before .before .before .before .before .before .before .before .before .before .args .ends)) a 0)) (c .before .before .before .before .before .before .before .before .before .before .before .before .before .before .before .before .before .before .before .before .before .before .args .held)) _ _ e, c .before .before .copy-times2 .ensures ∙ list-taken (counts (c .before .before .before .before .before .before .before .before .before .before .before .before .before .before .before .before .before .before .before .before .before .before .args .forbidden) (c .before .before .before .before .before .before .before .before .before .before .before .before .before .before .before .before .before .before .before .before .before .before .args .best) (fitnessOf (problemOf (words (now (c .before .before .before .before .before .before .before .before .before .before .before .before .before .before .before .before .before .before .before .before .before .before .args .s))) (c .before .before .before .before .before .before .before .before .before .before .before .before .before .before .before .before .before .before .before .before .before .before .args .z)) (λ a. getD (now (c .before .before .before .before .before .before .before .before .before .before .before .before .before .before .before .before .before .before .before .before .before .before .args .ends)) a 0)) (c .before .before .before .before .before .before .before .before .before .before .before .before .before .before .before .before .before .before .before .before .before .before .args .held)) _ _ e)))
 
 pub weigh-move-spec : {M : Type 1} → statement M
 weigh-move-spec =
     tie.close
     (tie.spec
-    fitness-of-requires
+    fitness-by-last-steps-requires
     counts-requires
     returns
     copy-requires
