@@ -125,14 +125,14 @@ pub fn critical_path(
     table: &[usize],
     before: &[usize],
     machines: &[usize],
-    ways: [[u32; 16]; 16],
+    ways: &[[u32; 16]; 16],
     order: &[usize],
     starts: &[u64],
     ends: &[u64],
     path: &mut [usize],
 ) -> usize
-    requires { ⌜ Walked (now table) (now before) (now machines) ways (placed (now order) (now starts) (now ends)) × (length (now path) ≡ length (now order)) ⌝ }
-    ensures { λ r. ⌜ ((p : Problem) (lines : Lines) → Walkable p lines (now (table .entry)) (now (before .entry)) (now (machines .entry)) ways (placed (now (order .entry)) (now (starts .entry)) (now (ends .entry))) → drop r (now (path .exit)) ≡ criticalPath p lines (placed (now (order .entry)) (now (starts .entry)) (now (ends .entry)))) ⌝ }
+    requires { ⌜ Walked (now table) (now before) (now machines) (now ways) (placed (now order) (now starts) (now ends)) × (length (now path) ≡ length (now order)) ⌝ }
+    ensures { λ r. ⌜ ((p : Problem) (lines : Lines) → Walkable p lines (now (table .entry)) (now (before .entry)) (now (machines .entry)) (now (ways .entry)) (placed (now (order .entry)) (now (starts .entry)) (now (ends .entry))) → drop r (now (path .exit)) ≡ criticalPath p lines (placed (now (order .entry)) (now (starts .entry)) (now (ends .entry)))) ⌝ }
     ensures { λ r. ⌜ (r < length (now (path .entry))) × (take r (now (path .exit)) ≡ take r (now (path .entry))) ⌝ }
 {
     let mut a = last_to_end(order, ends);

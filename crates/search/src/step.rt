@@ -25,7 +25,7 @@ pub fn best_move(
     s: &[u8],
     z: Layout,
     table: &[usize],
-    ways: [[u32; 16]; 16],
+    ways: &[[u32; 16]; 16],
     choices: bool,
     step: usize,
     pairs: [Taboo; 6],
@@ -50,7 +50,7 @@ pub fn best_move(
     begun: &mut [u64],
     done: &mut [u64],
 ) -> Best
-    requires { ⌜ Ready (now s) z (now table) ways × Lined (z .activities) (z .machines) (now cells) lens × Timed (problemOf (words (now s)) z) (linesIn (now cells) lens) (now order) (now starts) (now ends) × (choices ≡ flexible (problemOf (words (now s)) z)) ⌝ }
+    requires { ⌜ Ready (now s) z (now table) (now ways) × Lined (z .activities) (z .machines) (now cells) lens × Timed (problemOf (words (now s)) z) (linesIn (now cells) lens) (now order) (now starts) (now ends) × (choices ≡ flexible (problemOf (words (now s)) z)) ⌝ }
     requires { ⌜ Space (z .activities) (now before) (now after) (now machines) (now places) (now path) (now tail) (now heads) ⌝ }
     requires { ⌜ Kept (z .activities) (now tried) (now begins) (now finishes) × Kept (z .activities) (now taken) (now begun) (now done) ⌝ }
     ensures answer { λ r. ⌜ r ≡ triedAll (problemOf (words (now (s .entry))) z) (linesIn (now (cells .entry)) lens) (forbidden step pairs left (linesIn (now (cells .entry)) lens)) best (movesFrom (problemOf (words (now (s .entry))) z) (linesIn (now (cells .entry)) lens)) Nothing ⌝ }

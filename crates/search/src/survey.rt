@@ -23,7 +23,7 @@ fn survey(
     s: &[u8],
     z: Layout,
     table: &[usize],
-    ways: [[u32; 16]; 16],
+    ways: &[[u32; 16]; 16],
     cells: &[usize],
     lens: [usize; 16],
     order: &[usize],
@@ -36,7 +36,7 @@ fn survey(
     path: &mut [usize],
     tail: &mut [u64],
 ) -> usize
-    requires { ⌜ Ready (now s) z (now table) ways × Lined (z .activities) (z .machines) (now cells) lens × Timed (problemOf (words (now s)) z) (linesIn (now cells) lens) (now order) (now starts) (now ends) ⌝ }
+    requires { ⌜ Ready (now s) z (now table) (now ways) × Lined (z .activities) (z .machines) (now cells) lens × Timed (problemOf (words (now s)) z) (linesIn (now cells) lens) (now order) (now starts) (now ends) ⌝ }
     requires { ⌜ (length (now before) ≡ z .activities) × (length (now after) ≡ z .activities) × (length (now machines) ≡ z .activities) × (length (now places) ≡ z .activities) × (length (now path) ≡ z .activities) × (length (now tail) ≡ z .activities) ⌝ }
     ensures linked { λ _. ⌜ LinesHeld (z .activities) (linesIn (now (cells .entry)) lens) (linksOf (now (before .exit)) (now (after .exit)) (now (machines .exit)) (now (places .exit))) ⌝ }
     ensures walked { λ r. ⌜ (drop r (now (path .exit)) ≡ criticalPath (problemOf (words (now (s .entry))) z) (linesIn (now (cells .entry)) lens) (placingOf (problemOf (words (now (s .entry))) z) (linesIn (now (cells .entry)) lens))) × (r < z .activities) ⌝ }
@@ -49,12 +49,13 @@ fn survey(
     at
 }
 
-// The moves to try on timed lines. `choices` says whether any activity has two candidates; the seven buffers are work space.
+// The moves to try on timed lines. `choices` says whether any activity has two candidates. The links of the lines are written; path, tail and
+// heads are work space.
 pub fn find_moves(
     s: &[u8],
     z: Layout,
     table: &[usize],
-    ways: [[u32; 16]; 16],
+    ways: &[[u32; 16]; 16],
     choices: bool,
     cells: &[usize],
     lens: [usize; 16],
@@ -69,10 +70,11 @@ pub fn find_moves(
     tail: &mut [u64],
     heads: &mut [u64],
 ) -> Moves
-    requires { ⌜ Ready (now s) z (now table) ways × Lined (z .activities) (z .machines) (now cells) lens × Timed (problemOf (words (now s)) z) (linesIn (now cells) lens) (now order) (now starts) (now ends) × (choices ≡ flexible (problemOf (words (now s)) z)) ⌝ }
+    requires { ⌜ Ready (now s) z (now table) (now ways) × Lined (z .activities) (z .machines) (now cells) lens × Timed (problemOf (words (now s)) z) (linesIn (now cells) lens) (now order) (now starts) (now ends) × (choices ≡ flexible (problemOf (words (now s)) z)) ⌝ }
     requires { ⌜ Space (z .activities) (now before) (now after) (now machines) (now places) (now path) (now tail) (now heads) ⌝ }
     ensures blocks { λ r. ⌜ (ranked (r .blocks) ≡ blocksBy (problemOf (words (now (s .entry))) z) (linesIn (now (cells .entry)) lens) (placingOf (problemOf (words (now (s .entry))) z) (linesIn (now (cells .entry)) lens))) × (r .blocks .count ≤ 3) ⌝ }
     ensures others { λ r. ⌜ (ranked (r .others) ≡ othersBy (problemOf (words (now (s .entry))) z) (linesIn (now (cells .entry)) lens) (placingOf (problemOf (words (now (s .entry))) z) (linesIn (now (cells .entry)) lens))) × (r .others .count ≤ 3) ⌝ }
+    ensures linked { λ _. ⌜ LinesHeld (z .activities) (linesIn (now (cells .entry)) lens) (linksOf (now (before .exit)) (now (after .exit)) (now (machines .exit)) (now (places .exit))) ⌝ }
     ensures allowed { λ r. ⌜ AllAllowed (z .machines) (linesIn (now (cells .entry)) lens) (r .blocks) × AllAllowed (z .machines) (linesIn (now (cells .entry)) lens) (r .others) ⌝ }
 {
     let at = survey(

@@ -28,7 +28,7 @@ pub fn try_step(
     s: &[u8],
     z: Layout,
     table: &[usize],
-    ways: [[u32; 16]; 16],
+    ways: &[[u32; 16]; 16],
     choices: bool,
     step: usize,
     pairs: [Taboo; 6],
@@ -43,7 +43,7 @@ pub fn try_step(
     begun: &mut [u64],
     done: &mut [u64],
 ) -> Best
-    requires { ⌜ Ready (now s) z (now table) ways × Lined (z .activities) (z .machines) (now cells) lens × Timed (problemOf (words (now s)) z) (linesIn (now cells) lens) (now order) (now starts) (now ends) × (choices ≡ flexible (problemOf (words (now s)) z)) ⌝ }
+    requires { ⌜ Ready (now s) z (now table) (now ways) × Lined (z .activities) (z .machines) (now cells) lens × Timed (problemOf (words (now s)) z) (linesIn (now cells) lens) (now order) (now starts) (now ends) × (choices ≡ flexible (problemOf (words (now s)) z)) ⌝ }
     requires { ⌜ Kept (z .activities) (now taken) (now begun) (now done) ⌝ }
     ensures answer { λ r. ⌜ r ≡ triedAll (problemOf (words (now (s .entry))) z) (linesIn (now (cells .entry)) lens) (forbidden step pairs left (linesIn (now (cells .entry)) lens)) best (movesFrom (problemOf (words (now (s .entry))) z) (linesIn (now (cells .entry)) lens)) Nothing ⌝ }
     ensures holding { λ r. ⌜ Holding (problemOf (words (now (s .entry))) z) (linesIn (now (cells .entry)) lens) r (now (taken .exit)) (now (begun .exit)) (now (done .exit)) ⌝ }

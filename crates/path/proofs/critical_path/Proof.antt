@@ -15,12 +15,12 @@ use Rattle.path.proofs.critical_path.Statement.{statement}
 use Rattle.path.proofs.critical_path.Tie as tie
 
 abbrev Inv-loop : tie.InvT-loop
-Inv-loop table before machines order starts ends path₀ ways a₀ at₀ path a at =
+Inv-loop table before machines ways order starts ends path₀ a₀ at₀ path a at =
     Space machines path₀ path a at
     × ((p : Problem) (lines : Lines) (w : Walkable p lines table before machines ways (placed order starts ends)) → Walking p lines (placed order starts ends) (w .falling .rank) path a at)
 
 abbrev μ-loop : tie.MeasureT-loop
-μ-loop table before machines order starts ends path₀ ways a₀ at₀ path a at = at
+μ-loop table before machines ways order starts ends path₀ a₀ at₀ path a at = at
 
 last-to-end-requires : tie.Need-last-to-end-requires Inv-loop μ-loop
 last-to-end-requires c κs =
@@ -106,7 +106,7 @@ loop-again c =
     let w = b .pre .0 .walkable in
     let l = c .before .before .before .before .before .before .before .before .before .loop in
     let k = l .inv .1 (b .pre .0 .problem) (b .pre .0 .lines) w in
-    let next : (p : Problem) (lines : Lines) (v : Walkable p lines (now (b .args .table)) (now (b .args .before)) (now (b .args .machines)) (b .args .t4) (placed (now (b .args .order)) (now (b .args .starts)) (now (b .args .ends)))) → Walking p lines (placed (now (b .args .order)) (now (b .args .starts)) (now (b .args .ends))) (v .falling .rank) (set (l .path) (l .at - 1) (l .a)) (c .before .b .given .0 .0) (l .at - 1) =
+    let next : (p : Problem) (lines : Lines) (v : Walkable p lines (now (b .args .table)) (now (b .args .before)) (now (b .args .machines)) (now (b .args .ways)) (placed (now (b .args .order)) (now (b .args .starts)) (now (b .args .ends)))) → Walking p lines (placed (now (b .args .order)) (now (b .args .starts)) (now (b .args .ends))) (v .falling .rank) (set (l .path) (l .at - 1) (l .a)) (c .before .b .given .0 .0) (l .at - 1) =
     λ p lines v.
     let q = l .inv .1 p lines v in
     goes v q (l .inv .0 .within) (c .before .b .given .0 .0)
