@@ -1,5 +1,5 @@
 -- The loops that look for the lead and for the least rank, and what holds of the one that is chosen.
-use Prim.Native.Nat.{ℕ, _+_, _-_, _≤_, _<_}
+use Prim.Native.Nat.{ℕ, suc, _+_, _-_, _≤_, _<_}
 use mathlib.Core.Path.{_≡_, refl, sym, ap, ap₂, _∙_, subst}
 use mathlib.Core.Bool.{Bool, true, false, _&&_, _||_}
 use mathlib.Core.List.{List, [], _∷_, _++_}
@@ -7,9 +7,13 @@ use native.Mathlib.Omega.{arith}
 use lib.Dec.{eqb, ltb, leb}
 use lib.ListN.{length, getD, drop}
 use lib.Seq.{drop-length}
+use Rattle.graph.proofs.CountingLaws.{below-at, below-more}
+use Rattle.plan.specs.Problem.{Problem, Genes}
+use Rattle.plan.specs.Accepted.{Accepted}
 use Rattle.board.specs.declared.Seat.{Seat}
 use Rattle.in_order.proofs.ReadyLaws.{next-of, none-left}
-use Rattle.active.specs.Active.{rank, pickSeat, sooner, leadFrom, leadOf, contends, preferred, leastRank, chosenOf}
+use Rattle.active.specs.Active.{Scan, scanOf, rank, seatNow, pickSeat, sooner, leadFrom, leadOf, contends, preferred, leastRank, chosenOf}
+use Rattle.active.specs.Kept.{heldIn, seatIn, heldBy, ScannedAll, Offered}
 use Rattle.active.specs.declared.Choice.the-variants.{Nothing, Sits}
 
 -- ---- what holds of all of a list
@@ -68,10 +72,6 @@ pub one-chosen : (ranks : List ℕ) (seat : ℕ → Seat) (l : List ℕ) → 0 <
 one-chosen ranks seat [] h e f = absurd (omega arith)
 one-chosen ranks seat (a ∷ l) h e f = ap Sits (f ∙ ap (λ (y : Seat). leastRank ranks seat y (a ∷ l)) e)
 
-pub one-chosen-of : (ranks : List ℕ) (seat : ℕ → Seat) {l m : List ℕ} → l ≡ m → 0 < length m → {lead x : Seat} → lead ≡ leadOf ranks seat l → x ≡ leastRank ranks seat lead l
-    → Sits x ≡ chosenOf ranks seat m
-one-chosen-of ranks seat {l} {m} q h e f = one-chosen ranks seat l (rw q h) e f ∙ ap (chosenOf ranks seat) q
-
 -- ---- `lead_of`
 
 pub record Leading (ranks : List ℕ) (seat : ℕ → Seat) (n : ℕ) (l : List ℕ) (best : Seat) (k : ℕ) : Type 0 where
@@ -79,7 +79,7 @@ pub record Leading (ranks : List ℕ) (seat : ℕ → Seat) (n : ℕ) (l : List 
   pub known : best .activity < n
   pub rest : leadFrom ranks seat best (drop k l) ≡ leadOf ranks seat l
 
-pub lead-begin : (ranks : List ℕ) (seat : ℕ → Seat) (n : ℕ) (l : List ℕ) {best : Seat} → best ≡ seat (getD l 0 0) → seat (getD l 0 0) .activity < n → Leading ranks seat n l best 0
+lead-begin : (ranks : List ℕ) (seat : ℕ → Seat) (n : ℕ) (l : List ℕ) {best : Seat} → best ≡ seat (getD l 0 0) → seat (getD l 0 0) .activity < n → Leading ranks seat n l best 0
 lead-begin ranks seat n l {best} e h =
     record { within = omega arith; known = rw e h; rest = ap (λ (y : Seat). leadFrom ranks seat y l) e }
 
@@ -100,6 +100,16 @@ module _ {ranks : List ℕ} {seat : ℕ → Seat} {n : ℕ} {l : List ℕ} {best
   pub lead-end : length l ≤ k → best ≡ leadOf ranks seat l
   unfolding leadFrom
   lead-end h = sym (none-left (leadFrom ranks seat best) l k (w .within) h) ∙ w .rest
+
+pick-self : (t : Bool) (x : Seat) → pickSeat t x x ≡ x
+pick-self true x = refl
+pick-self false x = refl
+
+-- The first need not be compared with itself.
+pub lead-first : (ranks : List ℕ) (seat : ℕ → Seat) (n : ℕ) (l : List ℕ) {best : Seat} → best ≡ seat (getD l 0 0) → seat (getD l 0 0) .activity < n → 0 < length l → Leading ranks seat n l best 1
+lead-first ranks seat n l {best} e h k =
+    lead-again (lead-begin ranks seat n l e h) k e (rw e h)
+    (sym (pick-self (ltb (best .finish) (best .finish) || (eqb (best .finish) (best .finish) && ltb (rank ranks best) (rank ranks best))) best))
 
 -- ---- `least_rank`
 
@@ -130,3 +140,72 @@ module _ {ranks : List ℕ} {seat : ℕ → Seat} {lead : Seat} {n : ℕ} {l : L
 
   pub pick-end : k ≡ 0 → best ≡ leastRank ranks seat lead l
   pick-end e = w .rest ∙ ap (λ (j : ℕ). leastRank ranks seat lead (drop j l)) e
+
+-- ---- seats that are kept by task
+
+module _ (ranks kept : List ℕ) (seat : ℕ → Seat) where
+  abbrev pub Agree : ℕ → Type 0
+  Agree t = seatIn kept t ≡ seat (heldIn kept t)
+
+  lead-by : (y : Seat) (l : List ℕ) → All Agree l → leadFrom ranks (seatIn kept) y l ≡ leadFrom ranks seat y (heldBy kept l)
+  unfolding leadFrom heldBy All
+  lead-by y [] h = refl
+  lead-by y (t ∷ l) h =
+      ap (λ (x : Seat). leadFrom ranks (seatIn kept) (sooner ranks x y) l) (h .0) ∙ lead-by (sooner ranks (seat (heldIn kept t)) y) l (h .1)
+
+  least-by : (lead : Seat) (l : List ℕ) → All Agree l → leastRank ranks (seatIn kept) lead l ≡ leastRank ranks seat lead (heldBy kept l)
+  unfolding leastRank heldBy All
+  least-by lead [] h = refl
+  least-by lead (t ∷ l) h = ap₂ (λ (x y : Seat). preferred ranks lead x y) (h .0) (least-by lead l (h .1))
+
+  pub chosen-by : (l : List ℕ) → 0 < length l → All Agree l → {lead x : Seat} → lead ≡ leadOf ranks (seatIn kept) l → x ≡ leastRank ranks (seatIn kept) lead l
+      → Sits x ≡ chosenOf ranks seat (heldBy kept l)
+  unfolding heldBy All
+  chosen-by [] h k e f = absurd (omega arith)
+  chosen-by (t ∷ l) h k {lead} e f =
+      one-chosen ranks seat (heldBy kept (t ∷ l)) (omega arith)
+      (e ∙ lead-by (seatIn kept t) (t ∷ l) k ∙ ap (λ (y : Seat). leadFrom ranks seat y (heldBy kept (t ∷ l))) (k .0)) (f ∙ least-by lead (t ∷ l) k)
+
+all-at : (P : ℕ → Type 0) (l : List ℕ) → ((k : ℕ) → k < length l → P (getD l k 0)) → All P l
+unfolding All
+all-at P [] h = tt
+all-at P (a ∷ l) h = (h 0 (omega arith), all-at P l (λ k i. h (suc k) (omega arith)))
+
+pub lead-known : {n : ℕ} {ranks kept l : List ℕ} → Offered n ranks kept l → {lead : Seat} → lead ≡ leadOf ranks (seatIn kept) l → lead .activity < n
+lead-known {n} {ranks} {kept} {l} w e =
+    rw e (lead-of-has (λ (y : Seat). y .activity < n) ranks (seatIn kept) l (w .some) (all-at (λ t. heldIn kept t < n) l (w .known)))
+
+-- ---- `choose`
+
+none-held : (kept l : List ℕ) → length l ≡ 0 → length (heldBy kept l) ≡ 0
+unfolding heldBy
+none-held kept [] e = refl
+none-held kept (t ∷ l) e = absurd (omega arith)
+
+module _ {p : Problem} {g : Genes} {settled₀ settled kept ends lines steps offered : List ℕ} (s : ScannedAll p g settled₀ settled kept ends lines steps offered) where
+  pub agreed : (ranks : List ℕ) → All (Agree ranks kept (seatNow p g ends lines steps)) offered
+  agreed ranks =
+      all-at (Agree ranks kept (seatNow p g ends lines steps)) offered
+      (λ k h. s .keeping .holds (getD offered k 0) (below-at (p .tasks) offered k (s .tasks) h) (s .known k h) .seat)
+
+  pub offers : Accepted p g → {ranks : List ℕ} → length ranks ≡ 128 → 0 < length offered → Offered (p .n) ranks kept offered
+  offers ok e h =
+      record {
+        sized = s .keeping .sized;
+        there = below-more (p .tasks) 32 offered (ok .tasks .1) (s .tasks);
+        known = s .known;
+        ranked = e;
+        few = ok .activities .1;
+        some = h;
+      }
+
+  pub chosen-of : (ranks : List ℕ) → 0 < length offered → {lead x : Seat} → lead ≡ leadOf ranks (seatIn kept) offered → x ≡ leastRank ranks (seatIn kept) lead offered
+      → Sits x ≡ chosenOf ranks (seatNow p g ends lines steps) (scanOf p g settled₀ .candidates)
+  chosen-of ranks h e f =
+      chosen-by ranks kept (seatNow p g ends lines steps) offered h (agreed ranks) e f
+      ∙ ap (λ (x : Scan). chosenOf ranks (seatNow p g ends lines steps) (x .candidates)) (s .scanned)
+
+  pub none-of : (ranks : List ℕ) → length offered ≡ 0 → Nothing ≡ chosenOf ranks (seatNow p g ends lines steps) (scanOf p g settled₀ .candidates)
+  none-of ranks h =
+      none-chosen ranks (seatNow p g ends lines steps) (heldBy kept offered) (none-held kept offered h)
+      ∙ ap (λ (x : Scan). chosenOf ranks (seatNow p g ends lines steps) (x .candidates)) (s .scanned)

@@ -1,5 +1,6 @@
 pub mod RankLaws
 pub mod SeatNowLaws
+pub mod KeptLaws
 pub mod ScanLaws
 pub mod ChoiceLaws
 pub mod SeenLaws

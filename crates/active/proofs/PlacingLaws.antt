@@ -3,7 +3,7 @@ use Prim.Native.Nat.{ℕ, zero, suc, _+_, _-_, _≤_, _<_}
 use mathlib.Core.Path.{_≡_, refl, sym, ap, ap₂, _∙_, subst}
 use mathlib.Core.List.{List, [], _∷_}
 use native.Mathlib.Omega.{arith}
-use lib.ListN.{length, getD, set, take, length-set, length-append}
+use lib.ListN.{length, getD, set, take, replicate, length-set, length-append}
 use lib.Seq.{getD-set-other, length-take-le}
 use Rattle.plan.specs.Problem.{Problem, Genes}
 use Rattle.plan.specs.Accepted.{Accepted}
@@ -15,10 +15,12 @@ use Rattle.board.specs.Sound.{Sound}
 use Rattle.board.specs.declared.Seat.{Seat}
 use Rattle.board.proofs.BoardLaws.{empty-sound, room-left, seat-sound, ends-within}
 use Rattle.active.specs.Active.{scanOf, seatNow, withSettled, scanned, choiceOn, placeFrom, placeAll}
+use Rattle.active.specs.Kept.{forgotten, Manned, Kept}
 use Rattle.active.specs.Asked.{Chosen, Begun}
 use Rattle.active.specs.declared.Choice.{Choice}
 use Rattle.active.specs.declared.Choice.the-variants.{Nothing, Sits}
 use Rattle.active.proofs.SeatNowLaws.{seat-by-rule}
+use Rattle.active.proofs.KeptLaws.{fresh-kept, sit-kept}
 use Rattle.active.proofs.ChoiceLaws.{all-map, chosen-has}
 use Rattle.active.proofs.SeenLaws.{scan-seen}
 
@@ -57,17 +59,18 @@ turn : (p : Problem) (g : Genes) (ranks : List ℕ) (fuel : ℕ) (c : Choice) (b
 unfolding placeFrom
 turn p g ranks fuel c b x e = rw e
 
-pub record Placing (p : Problem) (g : Genes) (ranks order₀ order : List ℕ) (b : Board) (count : ℕ) : Type 0 where
+pub record Placing (p : Problem) (g : Genes) (ranks order₀ order cells : List ℕ) (b : Board) (count : ℕ) : Type 0 where
   pub few : count ≤ p .n
   pub sized : length order ≡ length order₀
   pub roomy : p .n ≤ length order₀
   pub kept : (j : ℕ) → count ≤ j → getD order j 0 ≡ getD order₀ j 0
   pub held : length (b .order) ≡ count
   pub sound : Sound (p .n) b
+  pub keeping : Kept p g cells (b .ends) (b .lines) (b .steps) (b .settled)
   pub rest : placeAll p g ranks (p .n - count) b ≡ placeAll p g ranks (p .n) (emptyBoard (p .n))
 
-pub place-begin : (p : Problem) (g : Genes) {ranks order : List ℕ} {b : Board} → Begun (p .n) ranks order b → Placing p g ranks order order b 0
-place-begin p g {ranks} {order} {b} u =
+pub place-begin : (p : Problem) (g : Genes) {ranks on order kept : List ℕ} {b : Board} → Begun p g ranks on order kept b → Placing p g ranks order order kept b 0
+place-begin p g {ranks} {on} {order} {kept} {b} u =
     let e : p .n - 0 ≡ p .n = omega arith in
     record {
       few = omega arith;
@@ -76,15 +79,17 @@ place-begin p g {ranks} {order} {b} u =
       kept = λ j h. refl;
       held = ap (λ (x : Board). length (x .order)) (u .empty);
       sound = rw (u .empty) (empty-sound (p .n));
+      keeping = rw (u .empty) (fresh-kept (u .fresh) g (replicate (p .n) 0) (replicate (p .n) 0));
       rest = ap₂ (λ (k : ℕ) (x : Board). placeAll p g ranks k x) e (u .empty);
     }
 
-module _ {p : Problem} {g : Genes} (ok : Accepted p g) {ranks order₀ order : List ℕ} {b : Board} {count : ℕ} (w : Placing p g ranks order₀ order b count) where
+module _ {p : Problem} {g : Genes} (ok : Accepted p g) {ranks order₀ order kept : List ℕ} {b : Board} {count : ℕ} (w : Placing p g ranks order₀ order kept b count) where
   -- What a choice asks.
-  pub place-asks : length ranks ≡ 128 → Chosen (p .n) ranks (b .ends) (b .lines) (b .steps) (b .settled)
-  place-asks h =
+  pub place-asks : {on : List ℕ} → length ranks ≡ 128 → Manned g (p .n) on → Chosen p g ranks on (b .ends) (b .lines) (b .steps) (b .settled) kept
+  place-asks h m =
       record {
         ranked = h;
+        manned = m;
         timely =
             record {
               ended = w .sound .sized .ends;
@@ -92,9 +97,8 @@ module _ {p : Problem} {g : Genes} (ok : Accepted p g) {ranks order₀ order : L
               lined = w .sound .sized .lines;
               stepped = w .sound .sized .steps;
             };
-        board = b;
-        sound = w .sound;
-        flags = refl;
+        flags = w .sound .sized .settled;
+        keeping = w .keeping;
       }
 
   module _ {r : Choice} (er : r ≡ choiceOn p g ranks b) {settled′ : List ℕ} (es : settled′ ≡ scanOf p g (b .settled) .settled) where
@@ -126,8 +130,10 @@ module _ {p : Problem} {g : Genes} (ok : Accepted p g) {ranks order₀ order : L
       pub has-room : count < length order
       has-room = omega (arith, more, w .sized, w .roomy)
 
-      pub place-again : {order′ : List ℕ} {b′ : Board} → b′ ≡ sit p x (withSettled b settled′) → order′ ≡ set order count (x .activity) → Placing p g ranks order₀ order′ b′ (count + 1)
-      place-again {order′} {b′} e o =
+      pub place-again : {kept′ kept″ order′ : List ℕ} {b′ : Board} {task : ℕ} → Kept p g kept′ (b .ends) (b .lines) (b .steps) settled′ → task ≡ p .taskOf (x .activity)
+          → kept″ ≡ set (forgotten (p .n) (x .machine) (p .tasks) kept′) (64 + task) (p .n) → b′ ≡ sit p x (withSettled b settled′) → order′ ≡ set order count (x .activity)
+          → Placing p g ranks order₀ order′ kept″ b′ (count + 1)
+      place-again {kept′} {kept″} {order′} {b′} {task} kp et ek e o =
           let k : p .n - count ≡ suc (p .n - (count + 1)) = omega (arith, more) in
           let q : placeFrom p g ranks (suc (p .n - (count + 1))) (choiceOn p g ranks b) (scanned p g b) ≡ placeAll p g ranks (p .n) (emptyBoard (p .n)) =
           ap (λ (j : ℕ). placeFrom p g ranks j (choiceOn p g ranks b) (scanned p g b)) (sym k) ∙ w .rest in
@@ -139,6 +145,9 @@ module _ {p : Problem} {g : Genes} (ok : Accepted p g) {ranks order₀ order : L
                 ap (λ (l : List ℕ). getD l j 0) o ∙ getD-set-other order count j (x .activity) 0 (λ y. absurd (omega (arith, y, h))) ∙ w .kept j (omega (arith, h));
             held = ap (λ (y : Board). length (y .order)) e ∙ omega (arith, length-append (b .order) (x .activity ∷ []), w .held);
             sound = rw e (fine .sound);
+            keeping =
+                rw (ek, e)
+                (sit-kept ok kp (w .sound .sized .lines) (w .sound .sized .steps) (scan-sound .sized .settled) x (fine .here) (fine .there) (fine .free) task et);
             rest =
                 ap (placeAll p g ranks (p .n - (count + 1))) (e ∙ ap (sit p x) scanned-is)
                 ∙ sym (turn p g ranks (p .n - (count + 1)) (choiceOn p g ranks b) (scanned p g b) x (sym er ∙ ex)) ∙ q;

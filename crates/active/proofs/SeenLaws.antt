@@ -8,17 +8,15 @@ use native.Mathlib.Numerals.{add-one}
 use borrow.Author.Tests.{eqb-false}
 use lib.ListN.{length, getD, set}
 use lib.Seq.{getD-set-other}
-use Rattle.graph.specs.Counting.{Below}
 use Rattle.plan.specs.Problem.{Problem, Genes}
 use Rattle.plan.specs.Accepted.{Accepted}
 use Rattle.genes.specs.Indexed.{isAssigned}
 use Rattle.genes.proofs.TaskLaws.{task-within}
 use Rattle.board.specs.Board.{Board}
 use Rattle.board.specs.Sound.{Sound}
-use Rattle.board.specs.declared.Seat.{Seat}
 use Rattle.board.proofs.BoardLaws.{settle-sound}
-use Rattle.active.specs.Active.{Scan, settledIn, anyUnsettled, stopsAt, candidateUnless, stopAt, passOver, scanSteps, scanFrom, scanTasks, scanOf, withSettled, seatNow, leadOf}
-use Rattle.active.proofs.ChoiceLaws.{All, all-map, all-append, lead-of-has}
+use Rattle.active.specs.Active.{Scan, settledIn, anyUnsettled, stopsAt, candidateUnless, stopAt, passOver, scanSteps, scanFrom, scanTasks, scanOf, withSettled}
+use Rattle.active.proofs.ChoiceLaws.{All, all-map, all-append}
 
 abbrev pub Free : (settled : List ℕ) → (bound a : ℕ) → Type 0
 Free settled bound a = (a < bound) × (getD settled a 0 ≡ 0)
@@ -77,28 +75,3 @@ module _ {p : Problem} {g : Genes} (ok : Accepted p g) (b : Board) where
   pub scan-seen : Sound (p .n) b → Seen (p .n) (scanOf p g (b .settled))
   unfolding All
   scan-seen w = tasks-seen (p .tasks) 0 (record { settled = b .settled; candidates = [] }) (omega arith) (record { sound = w; free = tt })
-
--- ---- the candidates of a scan are known, and so is the lead
-
-free-below : (n : ℕ) (settled l : List ℕ) → All (Free settled n) l → Below n l
-unfolding All Below
-free-below n settled [] h = tt
-free-below n settled (a ∷ l) h = (h .0 .0, free-below n settled l (h .1))
-
-below-all : (n : ℕ) (l : List ℕ) → Below n l → All (λ a. a < n) l
-unfolding All Below
-below-all n [] h = tt
-below-all n (a ∷ l) h = (h .0, below-all n l (h .1))
-
-pub scan-below : {p : Problem} {g : Genes} → Accepted p g → {b : Board} → Sound (p .n) b → {settled : List ℕ} → settled ≡ b .settled → {l : List ℕ} → l ≡ scanOf p g settled .candidates
-    → Below (p .n) l
-scan-below {p} {g} ok {b} w e f =
-    subst (λ (x : List ℕ). Below (p .n) x) (sym f)
-    (rw e (free-below (p .n) (scanOf p g (b .settled) .settled) (scanOf p g (b .settled) .candidates) (scan-seen ok b w .free)))
-
-pub lead-known : (p : Problem) (g : Genes) (n : ℕ) (ranks ends lines steps l : List ℕ) → 0 < length l → Below n l → leadOf ranks (seatNow p g ends lines steps) l .activity < n
-lead-known p g n ranks ends lines steps l h k = lead-of-has (λ (y : Seat). y .activity < n) ranks (seatNow p g ends lines steps) l h (below-all n l k)
-
-pub lead-known-of : (p : Problem) (g : Genes) (n : ℕ) (ranks ends lines steps : List ℕ) {l m : List ℕ} → l ≡ m → 0 < length m → Below n l → {lead : Seat}
-    → lead ≡ leadOf ranks (seatNow p g ends lines steps) l → lead .activity < n
-lead-known-of p g n ranks ends lines steps {l} {m} q h k e = rw e (lead-known p g n ranks ends lines steps l (rw q h) k)

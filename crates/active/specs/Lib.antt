@@ -1,3 +1,4 @@
 pub mod Active
+pub mod Kept
 pub mod Asked
 pub mod ActivePlaced

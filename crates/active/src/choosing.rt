@@ -1,8 +1,8 @@
 // Which candidate is placed.
 use crate::Choice;
 use crate::scanning::scan;
+use crate::seats::seat_at;
 use board::Seat;
-use graph::Link;
 use plan::Layout;
 ghost use mathlib.Core.Path.{_≡_};
 ghost use Prim.Native.Nat.{_+_, _<_};
@@ -13,30 +13,8 @@ ghost use Rattle.plan.specs.Found.{Placed};
 ghost use Rattle.plan.specs.Accepted.{Accepted};
 ghost use Rattle.tables.specs.Tabled.{Tabled};
 ghost use Rattle.active.specs.Active.{seatNow, sooner, contends, preferred, leadOf, leastRank, chosenOf, scanOf};
-ghost use Rattle.active.specs.Asked.{Timely, Offered, Chosen};
-
-// A candidate's seat.
-fn seat_of(
-    s: &[u8],
-    z: Layout,
-    table: &[usize],
-    a: usize,
-    ends: &[u64],
-    lines: &[usize],
-    steps: &[usize],
-) -> Seat
-    requires { ⌜ Placed z × Accepted (problemOf (words (now s)) z) (genesOf (words (now s)) z) × Tabled (problemOf (words (now s)) z) (now table) ⌝ }
-    requires { ⌜ (a < z .activities) × Timely (z .activities) (now ends) (now lines) (now steps) ⌝ }
-    ensures { λ r. ⌜ r ≡ seatNow (problemOf (words (now (s .entry))) z) (genesOf (words (now (s .entry))) z) (now (ends .entry)) (now (lines .entry)) (now (steps .entry)) a ⌝ }
-{
-    let m = board::machine_from(s, z, Link::To(a));
-    let line = board::last_placed(lines, m, z.activities);
-    let task = tables::owner(table, a);
-    let step = board::last_placed(steps, task, z.activities);
-    let from = board::machine_from(s, z, step);
-    let way = plan::transport(s, z, from, m) as u64;
-    board::seat_after(s, z, table, a, m, line, step, way, ends)
-}
+ghost use Rattle.active.specs.Kept.{seatIn, Kept, Offered};
+ghost use Rattle.active.specs.Asked.{Chosen};
 
 // The first of two seats if it finishes sooner, or together and ranks before; else the second.
 fn sooner(ranks: &[usize], x: Seat, y: Seat) -> Seat
@@ -86,54 +64,32 @@ fn preferred(ranks: &[usize], lead: Seat, x: Seat, y: Seat) -> Seat
     y
 }
 
-// The candidate of least (finish, rank), the first among equals.
-fn lead_of(
-    s: &[u8],
-    z: Layout,
-    table: &[usize],
-    ranks: &[usize],
-    candidates: &[usize],
-    ends: &[u64],
-    lines: &[usize],
-    steps: &[usize],
-) -> Seat
-    requires { ⌜ Placed z × Accepted (problemOf (words (now s)) z) (genesOf (words (now s)) z) × Tabled (problemOf (words (now s)) z) (now table) ⌝ }
-    requires { ⌜ Offered (z .activities) (now ranks) (now candidates) × Timely (z .activities) (now ends) (now lines) (now steps) ⌝ }
-    ensures { λ r. ⌜ r ≡ leadOf (now (ranks .entry)) (seatNow (problemOf (words (now (s .entry))) z) (genesOf (words (now (s .entry))) z) (now (ends .entry)) (now (lines .entry)) (now (steps .entry))) (now (candidates .entry)) ⌝ }
+// The seat of least (finish, rank), the first among equals.
+fn lead_of(n: usize, ranks: &[usize], kept: &[usize], tasks: &[usize]) -> Seat
+    requires { ⌜ Offered n (now ranks) (now kept) (now tasks) ⌝ }
+    ensures { λ r. ⌜ r ≡ leadOf (now (ranks .entry)) (seatIn (now (kept .entry))) (now (tasks .entry)) ⌝ }
 {
-    let mut best = seat_of(s, z, table, candidates[0], ends, lines, steps);
-    let mut k = 0;
-    while k < candidates.len() {
-        let a = candidates[k];
+    let mut best = seat_at(kept, tasks[0]);
+    let mut k = 1;
+    while k < tasks.len() {
+        let t = tasks[k];
         k += 1;
-        let seat = seat_of(s, z, table, a, ends, lines, steps);
-        best = sooner(ranks, seat, best);
+        best = sooner(ranks, seat_at(kept, t), best);
     }
     best
 }
 
-// The candidate of least rank among those that contend with the lead, the first among equals: they are taken from the last to the first.
-fn least_rank(
-    s: &[u8],
-    z: Layout,
-    table: &[usize],
-    ranks: &[usize],
-    lead: Seat,
-    candidates: &[usize],
-    ends: &[u64],
-    lines: &[usize],
-    steps: &[usize],
-) -> Seat
-    requires { ⌜ Placed z × Accepted (problemOf (words (now s)) z) (genesOf (words (now s)) z) × Tabled (problemOf (words (now s)) z) (now table) ⌝ }
-    requires { ⌜ Offered (z .activities) (now ranks) (now candidates) × Timely (z .activities) (now ends) (now lines) (now steps) × (lead .activity < z .activities) ⌝ }
-    ensures { λ r. ⌜ r ≡ leastRank (now (ranks .entry)) (seatNow (problemOf (words (now (s .entry))) z) (genesOf (words (now (s .entry))) z) (now (ends .entry)) (now (lines .entry)) (now (steps .entry))) lead (now (candidates .entry)) ⌝ }
+// The seat of least rank among those that contend with the lead, the first among equals: they are taken from the last to the first.
+fn least_rank(n: usize, ranks: &[usize], kept: &[usize], lead: Seat, tasks: &[usize]) -> Seat
+    requires { ⌜ Offered n (now ranks) (now kept) (now tasks) × (lead .activity < n) ⌝ }
+    ensures { λ r. ⌜ r ≡ leastRank (now (ranks .entry)) (seatIn (now (kept .entry))) lead (now (tasks .entry)) ⌝ }
 {
     let mut best = lead;
-    let mut k = candidates.len();
+    let mut k = tasks.len();
     while 0 < k {
         k -= 1;
-        let seat = seat_of(s, z, table, candidates[k], ends, lines, steps);
-        best = preferred(ranks, lead, seat, best);
+        let t = tasks[k];
+        best = preferred(ranks, lead, seat_at(kept, t), best);
     }
     best
 }
@@ -144,23 +100,37 @@ pub fn choose(
     z: Layout,
     table: &[usize],
     ranks: &[usize],
+    on: &[usize],
     ends: &[u64],
     lines: &[usize],
     steps: &[usize],
     settled: &mut [usize],
+    kept: &mut [usize],
 ) -> Choice
     requires { ⌜ Placed z × Accepted (problemOf (words (now s)) z) (genesOf (words (now s)) z) × Tabled (problemOf (words (now s)) z) (now table) ⌝ }
-    requires { ⌜ Chosen (z .activities) (now ranks) (now ends) (now lines) (now steps) (now settled) ⌝ }
+    requires { ⌜ Chosen (problemOf (words (now s)) z) (genesOf (words (now s)) z) (now ranks) (now on) (now ends) (now lines) (now steps) (now settled) (now kept) ⌝ }
     ensures choice { λ r. ⌜ r ≡ chosenOf (now (ranks .entry)) (seatNow (problemOf (words (now (s .entry))) z) (genesOf (words (now (s .entry))) z) (now (ends .entry)) (now (lines .entry)) (now (steps .entry))) (scanOf (problemOf (words (now (s .entry))) z) (genesOf (words (now (s .entry))) z) (now (settled .entry)) .candidates) ⌝ }
     ensures settled { λ _. ⌜ now (settled .exit) ≡ scanOf (problemOf (words (now (s .entry))) z) (genesOf (words (now (s .entry))) z) (now (settled .entry)) .settled ⌝ }
+    ensures kept { λ _. ⌜ Kept (problemOf (words (now (s .entry))) z) (genesOf (words (now (s .entry))) z) (now (kept .exit)) (now (ends .entry)) (now (lines .entry)) (now (steps .entry)) (now (settled .exit)) ⌝ }
 {
-    let mut candidates = [0usize; 32];
-    let found = scan(s, z, table, settled, &mut candidates);
+    let mut offered = [0usize; 32];
+    let found = scan(
+        s,
+        z,
+        table,
+        on,
+        ends,
+        lines,
+        steps,
+        settled,
+        kept,
+        &mut offered,
+    );
     if found == 0 {
         return Choice::Nothing;
     }
-    let offered = &candidates[..found];
-    let lead = lead_of(s, z, table, ranks, offered, ends, lines, steps);
-    let seat = least_rank(s, z, table, ranks, lead, offered, ends, lines, steps);
+    let tasks = &offered[..found];
+    let lead = lead_of(z.activities, ranks, kept, tasks);
+    let seat = least_rank(z.activities, ranks, kept, lead, tasks);
     Choice::Sits(seat)
 }

@@ -2,6 +2,7 @@
 mod choosing;
 mod placing;
 mod scanning;
+mod seats;
 
 use board::Seat;
 pub use placing::place_active;

@@ -2,6 +2,9 @@
 use crate::Choice;
 use crate::choosing::choose;
 use crate::scanning::put_ranks;
+use crate::seats::begin;
+use crate::seats::fill_on;
+use crate::seats::forget;
 use plan::Layout;
 ghost use mathlib.Core.Path.{_≡_};
 ghost use Prim.Native.Nat.{_+_};
@@ -24,6 +27,7 @@ fn place_chosen(
     z: Layout,
     table: &[usize],
     ranks: &[usize],
+    on: &[usize],
     order: &mut [usize],
     starts: &mut [u64],
     ends: &mut [u64],
@@ -31,15 +35,17 @@ fn place_chosen(
     lines: &mut [usize],
     steps: &mut [usize],
     settled: &mut [usize],
+    kept: &mut [usize],
 ) -> usize
     requires { ⌜ Placed z × Accepted (problemOf (words (now s)) z) (genesOf (words (now s)) z) × Tabled (problemOf (words (now s)) z) (now table) ⌝ }
-    requires { ⌜ Begun (z .activities) (now ranks) (now order) (boardOf 0 (now order) (now starts) (now ends) (now setups) (now lines) (now steps) (now settled)) ⌝ }
+    requires { ⌜ Begun (problemOf (words (now s)) z) (genesOf (words (now s)) z) (now ranks) (now on) (now order) (now kept) (boardOf 0 (now order) (now starts) (now ends) (now setups) (now lines) (now steps) (now settled)) ⌝ }
     ensures board { λ r. ⌜ boardOf r (now (order .exit)) (now (starts .exit)) (now (ends .exit)) (now (setups .exit)) (now (lines .exit)) (now (steps .exit)) (now (settled .exit)) ≡ placeAll (problemOf (words (now (s .entry))) z) (genesOf (words (now (s .entry))) z) (now (ranks .entry)) (z .activities) (emptyBoard (z .activities)) ⌝ }
     ensures order { λ r. ⌜ Listed (placeAll (problemOf (words (now (s .entry))) z) (genesOf (words (now (s .entry))) z) (now (ranks .entry)) (z .activities) (emptyBoard (z .activities)) .order) (now (order .entry)) (now (order .exit)) r ⌝ }
 {
     let mut count = 0;
     loop {
-        let Choice::Sits(seat) = choose(s, z, table, ranks, ends, lines, steps, settled) else {
+        let Choice::Sits(seat) = choose(s, z, table, ranks, on, ends, lines, steps, settled, kept)
+        else {
             return count;
         };
         let a = seat.activity;
@@ -56,6 +62,7 @@ fn place_chosen(
             steps,
             settled,
         );
+        forget(z.activities, z.tasks, seat.machine, task, kept);
         count += 1;
     }
 }
@@ -66,6 +73,7 @@ fn place_all(
     z: Layout,
     table: &[usize],
     ranks: &[usize],
+    on: &[usize],
     order: &mut [usize],
     starts: &mut [u64],
     ends: &mut [u64],
@@ -73,9 +81,10 @@ fn place_all(
     lines: &mut [usize],
     steps: &mut [usize],
     settled: &mut [usize],
+    kept: &mut [usize],
 ) -> usize
     requires { ⌜ Placed z × Accepted (problemOf (words (now s)) z) (genesOf (words (now s)) z) × Tabled (problemOf (words (now s)) z) (now table) ⌝ }
-    requires { ⌜ Started (z .activities) (now ranks) (now order) (boardOf 0 (now order) (now starts) (now ends) (now setups) (now lines) (now steps) (now settled)) ⌝ }
+    requires { ⌜ Started (problemOf (words (now s)) z) (genesOf (words (now s)) z) (now ranks) (now on) (now order) (now kept) (boardOf 0 (now order) (now starts) (now ends) (now setups) (now lines) (now steps) (now settled)) ⌝ }
     ensures board { λ r. ⌜ boardOf r (now (order .exit)) (now (starts .exit)) (now (ends .exit)) (now (setups .exit)) (now (lines .exit)) (now (steps .exit)) (now (settled .exit)) ≡ placeAll (problemOf (words (now (s .entry))) z) (genesOf (words (now (s .entry))) z) (now (ranks .entry)) (z .activities) (emptyBoard (z .activities)) ⌝ }
     ensures order { λ r. ⌜ Listed (placeAll (problemOf (words (now (s .entry))) z) (genesOf (words (now (s .entry))) z) (now (ranks .entry)) (z .activities) (emptyBoard (z .activities)) .order) (now (order .entry)) (now (order .exit)) r ⌝ }
 {
@@ -85,6 +94,7 @@ fn place_all(
         z,
         table,
         ranks,
+        on,
         order,
         starts,
         ends,
@@ -92,6 +102,7 @@ fn place_all(
         lines,
         steps,
         settled,
+        kept,
     )
 }
 
@@ -128,11 +139,16 @@ pub fn place_active(
     let mut lines = [0usize; 16];
     let mut steps = [0usize; 32];
     let mut settled = [0usize; 128];
+    let mut on = [0usize; 128];
+    fill_on(s, z, &mut on);
+    let mut kept = [0usize; 224];
+    begin(s, z, &mut kept);
     place_all(
         s,
         z,
         table,
         &ranks,
+        &on,
         order,
         starts,
         ends,
@@ -140,5 +156,6 @@ pub fn place_active(
         &mut lines,
         &mut steps,
         &mut settled[..n],
+        &mut kept,
     )
 }

@@ -1,9 +1,10 @@
 // One scan of the tasks: each stops at its first step that is not settled and has a machine.
+use crate::seats::keep;
+use crate::seats::seat_of;
 use plan::Layout;
-use plan::Machine;
 ghost use mathlib.Core.Path.{_≡_};
-ghost use Prim.Native.Nat.{_+_, _≤_, _<_, _^_};
-ghost use lib.ListN.{length};
+ghost use Prim.Native.Nat.{_+_, _≤_, _<_};
+ghost use lib.ListN.{length, take};
 ghost use Rattle.words.specs.Words.{words};
 ghost use Rattle.graph.specs.Counting.{Below};
 ghost use Rattle.plan.specs.Problem.{Problem};
@@ -12,8 +13,9 @@ ghost use Rattle.plan.specs.Found.{Placed};
 ghost use Rattle.plan.specs.Accepted.{Accepted};
 ghost use Rattle.tables.specs.Tabled.{Tabled};
 ghost use Rattle.in_order.specs.Waiting.{Naming};
-ghost use Rattle.active.specs.Active.{rankedFrom, anyUnsettled, stopsAt, scanOf};
-ghost use Rattle.active.specs.Asked.{scanIn, Flagged};
+ghost use Rattle.active.specs.Active.{rankedFrom, anyUnsettled};
+ghost use Rattle.active.specs.Kept.{stopsHere, Manned, Kept, Passed, ScannedTask, ScannedAll};
+ghost use Rattle.active.specs.Asked.{Timely, Flagged};
 
 // Gives each of the order its place as its rank.
 pub fn put_ranks(activities: &[usize], ranks: &mut [usize])
@@ -53,54 +55,96 @@ fn waits(table: &[usize], settled: &[usize], a: usize) -> bool
 }
 
 // Whether a task stops at a step.
-fn stops(s: &[u8], z: Layout, settled: &[usize], a: usize) -> bool
-    requires { ⌜ Placed z × (a < length (now settled)) × (a < 2 ^ 32) ⌝ }
-    ensures { λ r. ⌜ r ≡ stopsAt (genesOf (words (now (s .entry))) z) (now (settled .entry)) a ⌝ }
+fn stops(on: &[usize], settled: &[usize], a: usize) -> bool
+    requires { ⌜ (a < length (now on)) × (a < length (now settled)) ⌝ }
+    ensures { λ r. ⌜ r ≡ stopsHere (now (on .entry)) (now (settled .entry)) a ⌝ }
 {
     if settled[a] == 1 {
         return false;
     }
-    let Machine::On(_) = plan::assigned(s, z, a) else {
+    on[a] < 16
+}
+
+// Passes the steps from one on until the task stops, and answers where; steps before are settled.
+fn next_step(on: &[usize], from: usize, last: usize, settled: &mut [usize]) -> usize
+    requires { ⌜ (from ≤ last) × (last ≤ length (now on)) × (last ≤ length (now settled)) ⌝ }
+    ensures { λ r. ⌜ Passed (now (on .entry)) (now (settled .entry)) (now (settled .exit)) from last r ⌝ }
+{
+    let mut a = from;
+    while a < last {
+        if stops(on, settled, a) {
+            return a;
+        }
+        settled[a] = 1;
+        a += 1;
+    }
+    a
+}
+
+// Scans one task, and answers whether it has a candidate, whose seat is then kept.
+fn scan_task(
+    s: &[u8],
+    z: Layout,
+    table: &[usize],
+    on: &[usize],
+    ends: &[u64],
+    lines: &[usize],
+    steps: &[usize],
+    t: usize,
+    settled: &mut [usize],
+    kept: &mut [usize],
+) -> bool
+    requires { ⌜ Placed z × Accepted (problemOf (words (now s)) z) (genesOf (words (now s)) z) × Tabled (problemOf (words (now s)) z) (now table) ⌝ }
+    requires { ⌜ Manned (genesOf (words (now s)) z) (z .activities) (now on) × Timely (z .activities) (now ends) (now lines) (now steps) × (t < z .tasks) ⌝ }
+    requires { ⌜ (length (now settled) ≡ z .activities) × Kept (problemOf (words (now s)) z) (genesOf (words (now s)) z) (now kept) (now ends) (now lines) (now steps) (now settled) ⌝ }
+    ensures { λ r. ⌜ ScannedTask (problemOf (words (now (s .entry))) z) (genesOf (words (now (s .entry))) z) t (now (settled .entry)) (now (kept .entry)) (now (settled .exit)) (now (kept .exit)) (now (ends .entry)) (now (lines .entry)) (now (steps .entry)) r ⌝ }
+{
+    let from = kept[t];
+    let last = kept[32 + t];
+    let a = next_step(on, from, last, settled);
+    kept[t] = a;
+    if last <= a {
         return false;
-    };
+    }
+    if waits(table, settled, a) {
+        return false;
+    }
+    if kept[64 + t] == a {
+        return true;
+    }
+    let seat = seat_of(s, z, table, a, ends, lines, steps);
+    keep(t, seat, kept);
     true
 }
 
-// Writes the candidates, by task, and answers how many they are; steps before them are settled.
+// Scans the tasks: writes those that have a candidate, and answers how many they are.
 pub fn scan(
     s: &[u8],
     z: Layout,
     table: &[usize],
+    on: &[usize],
+    ends: &[u64],
+    lines: &[usize],
+    steps: &[usize],
     settled: &mut [usize],
-    candidates: &mut [usize],
+    kept: &mut [usize],
+    offered: &mut [usize],
 ) -> usize
     requires { ⌜ Placed z × Accepted (problemOf (words (now s)) z) (genesOf (words (now s)) z) × Tabled (problemOf (words (now s)) z) (now table) ⌝ }
-    requires { ⌜ (length (now settled) ≡ z .activities) × (length (now candidates) ≡ 32) ⌝ }
-    ensures { λ r. ⌜ (scanIn (now (settled .exit)) (now (candidates .exit)) r ≡ scanOf (problemOf (words (now (s .entry))) z) (genesOf (words (now (s .entry))) z) (now (settled .entry))) × (r ≤ 32) × (r ≡ length (scanOf (problemOf (words (now (s .entry))) z) (genesOf (words (now (s .entry))) z) (now (settled .entry)) .candidates)) ⌝ }
+    requires { ⌜ Manned (genesOf (words (now s)) z) (z .activities) (now on) × Timely (z .activities) (now ends) (now lines) (now steps) × (length (now offered) ≡ 32) ⌝ }
+    requires { ⌜ (length (now settled) ≡ z .activities) × Kept (problemOf (words (now s)) z) (genesOf (words (now s)) z) (now kept) (now ends) (now lines) (now steps) (now settled) ⌝ }
+    ensures { λ r. ⌜ ScannedAll (problemOf (words (now (s .entry))) z) (genesOf (words (now (s .entry))) z) (now (settled .entry)) (now (settled .exit)) (now (kept .exit)) (now (ends .entry)) (now (lines .entry)) (now (steps .entry)) (take r (now (offered .exit))) × (r ≤ 32) × (r ≡ length (take r (now (offered .exit)))) ⌝ }
 {
     let mut found = 0;
-    let mut first = 0;
     let mut t = 0;
-    'tasks: while t < z.tasks {
-        let steps = plan::steps(s, z, t) as usize;
-        let from = first;
-        first += steps;
+    while t < z.tasks {
+        let task = t;
         t += 1;
-        let mut i = 0;
-        while i < steps {
-            let a = from + i;
-            i += 1;
-            if !stops(s, z, settled, a) {
-                settled[a] = 1;
-                continue;
-            }
-            if waits(table, settled, a) {
-                continue 'tasks;
-            }
-            candidates[found] = a;
-            found += 1;
-            continue 'tasks;
+        if !scan_task(s, z, table, on, ends, lines, steps, task, settled, kept) {
+            continue;
         }
+        offered[found] = task;
+        found += 1;
     }
     found
 }

@@ -4,8 +4,8 @@ use mathlib.Core.Path.{_≡_, refl, sym, ap, ap₂, _∙_, subst}
 use mathlib.Core.List.{List, [], _∷_}
 use native.Mathlib.Omega.{arith}
 use lib.ListN.{length, getD, take}
-use Rattle.graph.specs.Counting.{countOf, Below}
-use Rattle.graph.proofs.CountingLaws.{count-all, sumTo-le, below-more}
+use Rattle.graph.specs.Counting.{Below}
+use Rattle.graph.proofs.CountingLaws.{below-more}
 use Rattle.plan.specs.Problem.{Problem, Genes}
 use Rattle.plan.specs.Accepted.{Accepted}
 use Rattle.intake.specs.Circle.{each}
@@ -20,7 +20,7 @@ use Rattle.board.specs.Sound.{Sound}
 use Rattle.in_order.specs.Waiting.{Timed}
 use Rattle.in_order.proofs.Theorem.{well-placed}
 use Rattle.active.proofs.Theorem.{active-placed}
-use Rattle.decode.proofs.EndLaws.{sheet-ended}
+use Rattle.decode.proofs.EndLaws.{few-rows, sheet-ended}
 use Rattle.decode.proofs.Theorem.{well-decoded}
 use Rattle.calls.specs.Outcome.{Leaves}
 use Rattle.decoding.specs.Decoding.{sheetIn, boardSheet}
@@ -44,9 +44,6 @@ module _ (p : Problem) (g : Genes) where
     timed-by {starts} {ends} {setups} t = subst (λ (x : Decoder). Timed (ruleOf x p g) starts ends setups) (sym e) t
 
 -- ---- a board in cells
-
-pub few-rows : {n : ℕ} {b : Board} → Sound n b → length (b .order) ≤ n
-few-rows {n} {b} s = omega (arith, count-all n (b .order) (s .known), sumTo-le n (λ x. countOf x (b .order)) (λ x. omega (arith, s .once x, s .flags x)))
 
 module _ {n : ℕ} {order starts ends setups : List ℕ} (l : Laid n order starts ends setups) (h : n ≤ 128) where
   pub laid-few : length order ≤ 128
@@ -103,12 +100,6 @@ module _ (p : Problem) (g : Genes) where
       ∙ ap (λ (x : List ℕ). sheetIn p g (b .order) (b .starts) (b .ends) x) (t .prepared)
 
 -- ---- the cells that are in use
-
-pub rows-there : {n : ℕ} (b : Board) {before after : List ℕ} {count : ℕ} → Listed (b .order) before after count → Sound n b → n ≤ length before → length after ≡ length before → count ≤ length after
-rows-there b l s h e = omega (arith, l .whole, few-rows s, h, e)
-
-pub rows-long : {list before after : List ℕ} {count : ℕ} → Listed list before after count → count ≡ length (take count after)
-rows-long l = l .whole ∙ ap length (sym (l .listed))
 
 pub laid-by : (which : Decoder) (p : Problem) (g : Genes) → Accepted p g → {before after starts ends setups : List ℕ} {count : ℕ} → Listed (ruleOf which p g .order) before after count
     → Timed (ruleOf which p g) starts ends setups → Laid (p .n) (take count after) starts ends setups

@@ -4,58 +4,49 @@ use mathlib.Core.Path.{ap}
 use native.Mathlib.Omega.{arith}
 use denote.Ref.{now}
 use lib.ListN.{length}
-use Rattle.words.specs.Words.{words}
-use Rattle.plan.specs.Input.{problemOf, genesOf}
 use Rattle.graph.proofs.CountingLaws.{below-at}
 use Rattle.board.specs.declared.Seat.{Seat}
-use Rattle.active.specs.Active.{seatNow}
-use Rattle.active.proofs.ChoiceLaws.{Leading, lead-begin, lead-again, lead-end}
+use Rattle.active.specs.Kept.{seatIn}
+use Rattle.active.proofs.ChoiceLaws.{Leading, lead-first, lead-again, lead-end}
 use borrow.Author.Needs.{needs}
 use Rattle.active.proofs.choosing.lead_of.Statement.{statement}
 use Rattle.active.proofs.choosing.lead_of.Tie as tie
 
 abbrev Inv-loop : tie.InvT-loop
-Inv-loop s z table ranks candidates ends lines steps best₀ k₀ best k =
-    Leading ranks (seatNow (problemOf (words s) z) (genesOf (words s) z) ends lines steps) (z .activities) candidates best k
+Inv-loop n ranks kept tasks best₀ k₀ best k = Leading ranks (seatIn kept) n tasks best k
 
 abbrev μ-loop : tie.MeasureT-loop
-μ-loop s z table ranks candidates ends lines steps best₀ k₀ best k =
-    length candidates - k
+μ-loop n ranks kept tasks best₀ k₀ best k = length tasks - k
 
-shared-slice-read-seat-of : tie.Need-shared-slice-read-seat-of Inv-loop μ-loop
-shared-slice-read-seat-of c = omega (arith, c .before .before .before .before .before .before .before .before .pre .1 .0 .some)
+shared-slice-read-seat-at : tie.Need-shared-slice-read-seat-at Inv-loop μ-loop
+shared-slice-read-seat-at c = omega (arith, c .before .before .before .before .pre .some)
 
-seat-of-requires : tie.Need-seat-of-requires Inv-loop μ-loop
-seat-of-requires c κs = (c .before .before .before .before .before .before .before .before .pre .0, (below-at (c .before .before .before .before .before .before .before .before .args .z .activities) (now (c .before .before .before .before .before .before .before .before .args .candidates)) 0 (c .before .before .before .before .before .before .before .before .pre .1 .0 .known) (c .before .before .before .before .before .before .before .before .pre .1 .0 .some), c .before .before .before .before .before .before .before .before .pre .1 .1))
+seat-at-requires : tie.Need-seat-at-requires Inv-loop μ-loop
+seat-at-requires c κs = (c .before .before .before .before .pre .sized, below-at 32 (now (c .before .before .before .before .args .tasks)) 0 (c .before .before .before .before .pre .there) (c .before .before .before .before .pre .some))
 
 loop-holds : tie.Need-loop-holds Inv-loop μ-loop
-loop-holds c =
-    lead-begin (now (c .before .before .before .before .before .before .before .before .before .args .ranks)) (seatNow (problemOf (words (now (c .before .before .before .before .before .before .before .before .before .args .s))) (c .before .before .before .before .before .before .before .before .before .args .z)) (genesOf (words (now (c .before .before .before .before .before .before .before .before .before .args .s))) (c .before .before .before .before .before .before .before .before .before .args .z)) (now (c .before .before .before .before .before .before .before .before .before .args .ends)) (now (c .before .before .before .before .before .before .before .before .before .args .lines)) (now (c .before .before .before .before .before .before .before .before .before .args .steps))) (c .before .before .before .before .before .before .before .before .before .args .z .activities) (now (c .before .before .before .before .before .before .before .before .before .args .candidates)) (c .seat-of .ensures) (below-at (c .before .before .before .before .before .before .before .before .before .args .z .activities) (now (c .before .before .before .before .before .before .before .before .before .args .candidates)) 0 (c .before .before .before .before .before .before .before .before .before .pre .1 .0 .known) (c .before .before .before .before .before .before .before .before .before .pre .1 .0 .some))
+loop-holds c = lead-first (now (c .before .before .before .before .before .args .ranks)) (seatIn (now (c .before .before .before .before .before .args .kept))) (c .before .before .before .before .before .args .n) (now (c .before .before .before .before .before .args .tasks)) (c .seat-at .ensures) (c .before .before .before .before .before .pre .known 0 (c .before .before .before .before .before .pre .some)) (c .before .before .before .before .before .pre .some)
 
-mul-a : tie.Need-mul-a Inv-loop μ-loop
-mul-a c = omega (arith, c .loop-test .taken)
+mul-t : tie.Need-mul-t Inv-loop μ-loop
+mul-t c = omega (arith, c .loop-test .taken)
 
-shared-slice-read-a : tie.Need-shared-slice-read-a Inv-loop μ-loop
-shared-slice-read-a c = omega (arith, c .before .loop-test .taken)
+shared-slice-read-t : tie.Need-shared-slice-read-t Inv-loop μ-loop
+shared-slice-read-t c = omega (arith, c .before .loop-test .taken)
 
 add-k : tie.Need-add-k Inv-loop μ-loop
-add-k c = search needs
+add-k c = omega (arith, c .before .loop-test .taken)
 
-seat-of-requires-2 : tie.Need-seat-of-requires-2 Inv-loop μ-loop
-seat-of-requires-2 c κs = (c .before .before .before .before .before .before .before .before .before .before .before .before .pre .0, (below-at (c .before .before .before .before .before .before .before .before .before .before .before .before .args .z .activities) (now (c .before .before .before .before .before .before .before .before .before .before .before .before .args .candidates)) (c .before .before .loop .k) (c .before .before .before .before .before .before .before .before .before .before .before .before .pre .1 .0 .known) (c .before .loop-test .taken), c .before .before .before .before .before .before .before .before .before .before .before .before .pre .1 .1))
+seat-at-requires-2 : tie.Need-seat-at-requires-2 Inv-loop μ-loop
+seat-at-requires-2 c κs = (c .before .before .before .before .before .before .before .before .pre .sized, below-at 32 (now (c .before .before .before .before .before .before .before .before .args .tasks)) (c .before .before .loop .k) (c .before .before .before .before .before .before .before .before .pre .there) (c .before .loop-test .taken))
 
 sooner-requires : tie.Need-sooner-requires Inv-loop μ-loop
-sooner-requires c κs =
-    let h = below-at (c .before .before .before .before .before .before .before .before .before .before .before .before .before .args .z .activities) (now (c .before .before .before .before .before .before .before .before .before .before .before .before .before .args .candidates)) (c .before .before .before .loop .k) (c .before .before .before .before .before .before .before .before .before .before .before .before .before .pre .1 .0 .known) (c .before .before .loop-test .taken) in
-    let e = ap (λ (y : Seat). y .activity) (c .seat-of2 .ensures) in (omega (arith, h, e, c .before .before .before .before .before .before .before .before .before .before .before .before .before .pre .1 .0 .few, c .before .before .before .before .before .before .before .before .before .before .before .before .before .pre .1 .0 .ranked), omega (arith, c .before .before .before .loop .inv .known, c .before .before .before .before .before .before .before .before .before .before .before .before .before .pre .1 .0 .few, c .before .before .before .before .before .before .before .before .before .before .before .before .before .pre .1 .0 .ranked))
+sooner-requires c κs = (omega (arith, ap (λ (y : Seat). y .activity) (c .seat-at2 .ensures), c .before .before .before .before .before .before .before .before .before .pre .known (c .before .before .before .loop .k) (c .before .before .loop-test .taken), c .before .before .before .before .before .before .before .before .before .pre .few, c .before .before .before .before .before .before .before .before .before .pre .ranked), omega (arith, c .before .before .before .loop .inv .known, c .before .before .before .before .before .before .before .before .before .pre .few, c .before .before .before .before .before .before .before .before .before .pre .ranked))
 
 loop-less : tie.Need-loop-less Inv-loop μ-loop
 loop-less c = omega (arith, c .before .before .before .loop-test .taken)
 
 loop-again : tie.Need-loop-again Inv-loop μ-loop
-loop-again c =
-    let h = below-at (c .before .before .before .before .before .before .before .before .before .before .before .before .before .before .args .z .activities) (now (c .before .before .before .before .before .before .before .before .before .before .before .before .before .before .args .candidates)) (c .before .before .before .before .loop .k) (c .before .before .before .before .before .before .before .before .before .before .before .before .before .before .pre .1 .0 .known) (c .before .before .before .loop-test .taken) in
-    let e = ap (λ (y : Seat). y .activity) (c .before .seat-of2 .ensures) in lead-again (c .before .before .before .before .loop .inv) (c .before .before .before .loop-test .taken) (c .before .seat-of2 .ensures) (omega (arith, h, e)) (c .sooner .ensures)
+loop-again c = lead-again (c .before .before .before .before .loop .inv) (c .before .before .before .loop-test .taken) (c .before .seat-at2 .ensures) (omega (arith, ap (λ (y : Seat). y .activity) (c .before .seat-at2 .ensures), c .before .before .before .before .before .before .before .before .before .before .pre .known (c .before .before .before .before .loop .k) (c .before .before .before .loop-test .taken))) (c .sooner .ensures)
 
 returns : tie.Need-returns Inv-loop μ-loop
 returns c = lead-end (c .before .loop .inv) (c .loop-test .left)
@@ -66,13 +57,13 @@ lead-of-spec =
     (tie.spec
     Inv-loop
     μ-loop
-    shared-slice-read-seat-of
-    seat-of-requires
+    shared-slice-read-seat-at
+    seat-at-requires
     loop-holds
-    mul-a
-    shared-slice-read-a
+    mul-t
+    shared-slice-read-t
     add-k
-    seat-of-requires-2
+    seat-at-requires-2
     sooner-requires
     loop-less
     loop-again

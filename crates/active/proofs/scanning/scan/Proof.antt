@@ -1,121 +1,64 @@
--- `active::scanning::scan` meets its contract. Both loops' invariants: what is left to scan gives, upon what was scanned, what the whole does.
+-- `active::scanning::scan` meets its contract. The loop's invariant: what is left to scan gives, upon what was scanned, what the whole does.
 use Prim.Native.Nat.{_-_}
-use mathlib.Core.Path.{sym, ap, _∙_}
+use mathlib.Core.Path.{sym, _∙_}
 use native.Mathlib.Omega.{arith}
 use denote.Ref.{now}
-use lib.ListN.{length, length-set}
+use lib.Seq.{length-take-le}
 use Rattle.words.specs.Words.{words}
 use Rattle.plan.specs.Input.{problemOf, genesOf}
-use Rattle.genes.proofs.TaskLaws.{task-within}
-use Rattle.in_order.proofs.OrderLaws.{naming-of}
 use Rattle.active.proofs.RankLaws.{denied, granted}
-use Rattle.active.proofs.ScanLaws.{Stepping, step-begin, step-end, step-over, step-waits, step-found, Scanning, scan-begin, scan-again, scan-end, scan-long}
+use Rattle.active.proofs.ScanLaws.{Scanning, scan-begin, scan-skip, scan-take, scan-end}
 use borrow.Author.Needs.{needs}
 use Rattle.active.proofs.scanning.scan.Statement.{statement}
 use Rattle.active.proofs.scanning.scan.Tie as tie
 
 abbrev Inv-loop : tie.InvT-loop
-Inv-loop s z table settled₀ candidates₀ found₀ first t steps from i₀ settled candidates found i =
-    Stepping (problemOf (words s) z) (genesOf (words s) z) from steps settled₀ candidates₀ found₀ settled candidates found i
+Inv-loop s z table on ends lines steps settled₀ kept₀ offered₀ found₀ t₀ settled kept offered found t = Scanning (problemOf (words s) z) (genesOf (words s) z) settled₀ offered₀ settled kept ends lines steps offered found t
 
 abbrev μ-loop : tie.MeasureT-loop
-μ-loop s z table settled₀ candidates₀ found₀ first t steps from i₀ settled candidates found i =
-    steps - i
+μ-loop s z table on ends lines steps settled₀ kept₀ offered₀ found₀ t₀ settled kept offered found t = z .tasks - t
 
-abbrev Inv-tasks : tie.InvT-tasks
-Inv-tasks s z table settled₀ candidates₀ found₀ first₀ t₀ settled candidates found first t =
-    Scanning (problemOf (words s) z) (genesOf (words s) z) settled₀ candidates₀ settled candidates found first t
+loop-holds : tie.Need-loop-holds Inv-loop μ-loop
+loop-holds c = scan-begin (c .before .before .before .before .before .before .before .before .before .pre .1 .1 .1) (now (c .before .before .before .before .before .before .before .before .before .args .offered))
 
-abbrev μ-tasks : tie.MeasureT-tasks
-μ-tasks s z table settled₀ candidates₀ found₀ first₀ t₀ settled candidates found first t =
-    z .tasks - t
+add-t : tie.Need-add-t Inv-loop μ-loop
+add-t c = (omega (arith, c .before .before .loop .inv .fewer, c .if1 .taken, (c .before .before .before .before .before .before .before .before .before .before .before .before .pre .0 .1) .tasks .1, c .before .before .loop .inv .cells, c .before .before .before .before .before .before .before .before .before .before .before .before .pre .1 .0 .2))
 
-tasks-holds : tie.Need-tasks-holds Inv-loop μ-loop Inv-tasks μ-tasks
-tasks-holds c = scan-begin (c .before .before .before .before .pre .0 .1) (now (c .before .before .before .before .args .settled)) (now (c .before .before .before .before .args .candidates))
+scan-task-requires : tie.Need-scan-task-requires Inv-loop μ-loop
+scan-task-requires c κs = (c .before .before .before .before .before .before .before .before .before .before .before .before .before .before .pre .0, ((c .before .before .before .before .before .before .before .before .before .before .before .before .before .before .pre .1 .0 .0, c .before .before .before .before .before .before .before .before .before .before .before .before .before .before .pre .1 .0 .1, c .before .before .if1 .taken), (c .before .before .before .before .loop .inv .flags ∙ c .before .before .before .before .before .before .before .before .before .before .before .before .before .before .pre .1 .1 .0, c .before .before .before .before .loop .inv .keeping)))
 
-steps-requires : tie.Need-steps-requires Inv-loop μ-loop Inv-tasks μ-tasks
-steps-requires c κs = (c .before .before .before .before .before .before .before .pre .0 .0, omega (arith, c .if1 .taken, (c .before .before .before .before .before .before .before .pre .0 .1) .tasks .1))
+loop-less : tie.Need-loop-less Inv-loop μ-loop
+loop-less c = omega (arith, c .before .before .before .before .before .before .before .before .if1 .taken)
 
-cast-steps : tie.Need-cast-steps Inv-loop μ-loop Inv-tasks μ-tasks
-cast-steps c = search needs
+loop-again : tie.Need-loop-again Inv-loop μ-loop
+loop-again c = scan-skip (c .before .before .before .before .before .before .before .before .before .before .before .before .before .before .before .before .before .before .before .before .pre .0 .1) (c .before .before .before .before .before .before .before .before .before .before .loop .inv) (c .before .before .before .before .before .before .before .before .if1 .taken) (c .before .before .before .before .before .scan-task .ensures) (denied (c .before .before .before .before .before .scan-task .result) (c .if2 .taken))
 
-add-first : tie.Need-add-first Inv-loop μ-loop Inv-tasks μ-tasks
-add-first c =
-    omega (arith, task-within (c .before .before .before .before .before .before .before .before .pre .0 .1) (c .before .before .before .tasks .t) (c .before .if1 .taken), c .before .before .before .tasks .inv .here, c .steps .ensures, (c .before .before .before .before .before .before .before .before .pre .0 .1) .activities .1)
+mul-offered : tie.Need-mul-offered Inv-loop μ-loop
+mul-offered c = (omega (arith, c .before .before .before .before .before .before .before .before .before .before .loop .inv .fewer, c .before .before .before .before .before .before .before .before .if1 .taken, (c .before .before .before .before .before .before .before .before .before .before .before .before .before .before .before .before .before .before .before .before .pre .0 .1) .tasks .1, c .before .before .before .before .before .before .before .before .before .before .loop .inv .cells, c .before .before .before .before .before .before .before .before .before .before .before .before .before .before .before .before .before .before .before .before .pre .1 .0 .2))
 
-add-t : tie.Need-add-t Inv-loop μ-loop Inv-tasks μ-tasks
-add-t c = search needs
+slice-write-offered : tie.Need-slice-write-offered Inv-loop μ-loop
+slice-write-offered c = (omega (arith, c .before .before .before .before .before .before .before .before .before .before .loop .inv .fewer, c .before .before .before .before .before .before .before .before .if1 .taken, (c .before .before .before .before .before .before .before .before .before .before .before .before .before .before .before .before .before .before .before .before .pre .0 .1) .tasks .1, c .before .before .before .before .before .before .before .before .before .before .loop .inv .cells, c .before .before .before .before .before .before .before .before .before .before .before .before .before .before .before .before .before .before .before .before .pre .1 .0 .2))
 
-loop-holds : tie.Need-loop-holds Inv-loop μ-loop Inv-tasks μ-tasks
-loop-holds c =
-    step-begin (problemOf (words (now (c .before .before .before .before .before .before .before .before .args .s))) (c .before .before .before .before .before .before .before .before .args .z)) (genesOf (words (now (c .before .before .before .before .before .before .before .before .args .s))) (c .before .before .before .before .before .before .before .before .args .z)) (c .before .before .before .tasks .first) (c .steps .result) (c .before .before .before .tasks .settled) (c .before .before .before .tasks .candidates) (c .before .before .before .tasks .found)
+add-found : tie.Need-add-found Inv-loop μ-loop
+add-found c = (omega (arith, c .before .before .before .before .before .before .before .before .before .before .loop .inv .fewer, c .before .before .before .before .before .before .before .before .if1 .taken, (c .before .before .before .before .before .before .before .before .before .before .before .before .before .before .before .before .before .before .before .before .pre .0 .1) .tasks .1, c .before .before .before .before .before .before .before .before .before .before .loop .inv .cells, c .before .before .before .before .before .before .before .before .before .before .before .before .before .before .before .before .before .before .before .before .pre .1 .0 .2))
 
-tasks-less : tie.Need-tasks-less Inv-loop μ-loop Inv-tasks μ-tasks
-tasks-less c = search needs
+loop-less-2 : tie.Need-loop-less-2 Inv-loop μ-loop
+loop-less-2 c = omega (arith, c .before .before .before .before .before .before .before .before .if1 .taken)
 
-tasks-again : tie.Need-tasks-again Inv-loop μ-loop Inv-tasks μ-tasks
-tasks-again c =
-    scan-again (c .before .before .before .before .before .tasks .inv) (c .before .before .before .before .before .before .before .before .before .before .pre .0 .1) (c .before .before .before .if1 .taken) (c .before .before .steps .result) (c .before .before .steps .ensures) (step-end (c .before .loop .inv) (c .loop-test .left)) (omega (arith, c .before .loop .inv .held)) (c .before .loop .inv .sized) (ap length (c .before .loop .inv .same))
+loop-again-2 : tie.Need-loop-again-2 Inv-loop μ-loop
+loop-again-2 c = scan-take (c .before .before .before .before .before .before .before .before .before .before .before .before .before .before .before .before .before .before .before .before .pre .0 .1) (c .before .before .before .before .before .before .before .before .before .before .loop .inv) (c .before .before .before .before .before .before .before .before .if1 .taken) (c .before .before .before .before .before .scan-task .ensures) (granted (c .before .before .before .before .before .scan-task .result) (c .if2 .left)) (omega (arith, c .before .before .before .before .before .before .before .before .before .before .loop .inv .fewer, c .before .before .before .before .before .before .before .before .if1 .taken, (c .before .before .before .before .before .before .before .before .before .before .before .before .before .before .before .before .before .before .before .before .pre .0 .1) .tasks .1, c .before .before .before .before .before .before .before .before .before .before .loop .inv .cells, c .before .before .before .before .before .before .before .before .before .before .before .before .before .before .before .before .before .before .before .before .pre .1 .0 .2))
 
-add-a : tie.Need-add-a Inv-loop μ-loop Inv-tasks μ-tasks
-add-a c =
-    omega (arith, task-within (c .before .before .before .before .before .before .before .before .before .before .pre .0 .1) (c .before .before .before .before .before .tasks .t) (c .before .before .before .if1 .taken), c .before .before .before .before .before .tasks .inv .here, c .before .before .steps .ensures, (c .before .before .before .before .before .before .before .before .before .before .pre .0 .1) .activities .1, c .loop-test .taken)
+same-length : tie.Need-same-length Inv-loop μ-loop
+same-length c = c .before .before .loop .inv .flags
 
-add-i : tie.Need-add-i Inv-loop μ-loop Inv-tasks μ-tasks
-add-i c = omega (arith, c .loop-test .taken)
+same-length-2 : tie.Need-same-length-2 Inv-loop μ-loop
+same-length-2 c = omega (arith, c .before .before .loop .inv .keeping .sized, (c .before .before .before .before .before .before .before .before .before .before .before .before .pre .1 .1 .1) .sized)
 
-stops-requires : tie.Need-stops-requires Inv-loop μ-loop Inv-tasks μ-tasks
-stops-requires c κs = (c .before .before .before .before .before .before .before .before .before .before .before .pre .0 .0, omega (arith, task-within (c .before .before .before .before .before .before .before .before .before .before .before .pre .0 .1) (c .before .before .before .before .before .before .tasks .t) (c .before .before .before .before .if1 .taken), c .before .before .before .before .before .before .tasks .inv .here, c .before .before .before .steps .ensures, c .before .before .loop .inv .sized, c .before .before .before .before .before .before .tasks .inv .flags, c .before .before .before .before .before .before .before .before .before .before .before .pre .1 .0, (c .before .before .before .before .before .before .before .before .before .before .before .pre .0 .1) .activities .1, c .before .loop-test .taken), omega (arith, task-within (c .before .before .before .before .before .before .before .before .before .before .before .pre .0 .1) (c .before .before .before .before .before .before .tasks .t) (c .before .before .before .before .if1 .taken), c .before .before .before .before .before .before .tasks .inv .here, c .before .before .before .steps .ensures, c .before .before .loop .inv .sized, c .before .before .before .before .before .before .tasks .inv .flags, c .before .before .before .before .before .before .before .before .before .before .before .pre .1 .0, (c .before .before .before .before .before .before .before .before .before .before .before .pre .0 .1) .activities .1, c .before .loop-test .taken))
+same-length-3 : tie.Need-same-length-3 Inv-loop μ-loop
+same-length-3 c = c .before .before .loop .inv .cells
 
-mul-settled : tie.Need-mul-settled Inv-loop μ-loop Inv-tasks μ-tasks
-mul-settled c = omega (arith, task-within (c .before .before .before .before .before .before .before .before .before .before .before .before .before .pre .0 .1) (c .before .before .before .before .before .before .before .before .tasks .t) (c .before .before .before .before .before .before .if1 .taken), c .before .before .before .before .before .before .before .before .tasks .inv .here, c .before .before .before .before .before .steps .ensures, c .before .before .before .before .loop .inv .sized, c .before .before .before .before .before .before .before .before .tasks .inv .flags, c .before .before .before .before .before .before .before .before .before .before .before .before .before .pre .1 .0, (c .before .before .before .before .before .before .before .before .before .before .before .before .before .pre .0 .1) .activities .1, c .before .before .before .loop-test .taken)
-
-slice-write-settled : tie.Need-slice-write-settled Inv-loop μ-loop Inv-tasks μ-tasks
-slice-write-settled c = omega (arith, task-within (c .before .before .before .before .before .before .before .before .before .before .before .before .before .pre .0 .1) (c .before .before .before .before .before .before .before .before .tasks .t) (c .before .before .before .before .before .before .if1 .taken), c .before .before .before .before .before .before .before .before .tasks .inv .here, c .before .before .before .before .before .steps .ensures, c .before .before .before .before .loop .inv .sized, c .before .before .before .before .before .before .before .before .tasks .inv .flags, c .before .before .before .before .before .before .before .before .before .before .before .before .before .pre .1 .0, (c .before .before .before .before .before .before .before .before .before .before .before .before .before .pre .0 .1) .activities .1, c .before .before .before .loop-test .taken)
-
-loop-less : tie.Need-loop-less Inv-loop μ-loop Inv-tasks μ-tasks
-loop-less c = omega (arith, c .before .before .before .loop-test .taken)
-
-loop-again : tie.Need-loop-again Inv-loop μ-loop Inv-tasks μ-tasks
-loop-again c =
-    step-over (c .before .before .before .before .loop .inv) (c .before .before .before .loop-test .taken) (sym (c .before .stops .ensures) ∙ denied (c .before .stops .result) (c .if2 .taken))
-
-waits-requires : tie.Need-waits-requires Inv-loop μ-loop Inv-tasks μ-tasks
-waits-requires c κs =
-    record { problem = (problemOf (words (now (c .before .before .before .before .before .before .before .before .before .before .before .before .before .before .args .s))) (c .before .before .before .before .before .before .before .before .before .before .before .before .before .before .args .z)); naming = naming-of (c .before .before .before .before .before .before .before .before .before .before .before .before .before .before .pre .0 .1) (c .before .before .before .before .before .before .before .before .before .before .before .before .before .before .pre .0 .2); roomy = omega (arith, c .before .before .before .before .before .loop .inv .sized, c .before .before .before .before .before .before .before .before .before .tasks .inv .flags, c .before .before .before .before .before .before .before .before .before .before .before .before .before .before .pre .1 .0); here = omega (arith, task-within (c .before .before .before .before .before .before .before .before .before .before .before .before .before .before .pre .0 .1) (c .before .before .before .before .before .before .before .before .before .tasks .t) (c .before .before .before .before .before .before .before .if1 .taken), c .before .before .before .before .before .before .before .before .before .tasks .inv .here, c .before .before .before .before .before .before .steps .ensures, c .before .before .before .before .before .loop .inv .sized, c .before .before .before .before .before .before .before .before .before .tasks .inv .flags, c .before .before .before .before .before .before .before .before .before .before .before .before .before .before .pre .1 .0, (c .before .before .before .before .before .before .before .before .before .before .before .before .before .before .pre .0 .1) .activities .1, c .before .before .before .before .loop-test .taken) }
-
-tasks-less-2 : tie.Need-tasks-less-2 Inv-loop μ-loop Inv-tasks μ-tasks
-tasks-less-2 c = search needs
-
-tasks-again-2 : tie.Need-tasks-again-2 Inv-loop μ-loop Inv-tasks μ-tasks
-tasks-again-2 c =
-    scan-again (c .before .before .before .before .before .before .before .before .before .before .before .tasks .inv) (c .before .before .before .before .before .before .before .before .before .before .before .before .before .before .before .before .pre .0 .1) (c .before .before .before .before .before .before .before .before .before .if1 .taken) (c .before .before .before .before .before .before .before .before .steps .result) (c .before .before .before .before .before .before .before .before .steps .ensures) (step-waits (c .before .before .before .before .before .before .before .loop .inv) (c .before .before .before .before .before .before .loop-test .taken) (sym (c .before .before .before .before .stops .ensures) ∙ granted (c .before .before .before .before .stops .result) (c .before .before .before .if2 .left)) (sym (c .before .waits .ensures (problemOf (words (now (c .before .before .before .before .before .before .before .before .before .before .before .before .before .before .before .before .args .s))) (c .before .before .before .before .before .before .before .before .before .before .before .before .before .before .before .before .args .z)) (naming-of (c .before .before .before .before .before .before .before .before .before .before .before .before .before .before .before .before .pre .0 .1) (c .before .before .before .before .before .before .before .before .before .before .before .before .before .before .before .before .pre .0 .2)) omega (arith, task-within (c .before .before .before .before .before .before .before .before .before .before .before .before .before .before .before .before .pre .0 .1) (c .before .before .before .before .before .before .before .before .before .before .before .tasks .t) (c .before .before .before .before .before .before .before .before .before .if1 .taken), c .before .before .before .before .before .before .before .before .before .before .before .tasks .inv .here, c .before .before .before .before .before .before .before .before .steps .ensures, c .before .before .before .before .before .before .before .loop .inv .sized, c .before .before .before .before .before .before .before .before .before .before .before .tasks .inv .flags, c .before .before .before .before .before .before .before .before .before .before .before .before .before .before .before .before .pre .1 .0, (c .before .before .before .before .before .before .before .before .before .before .before .before .before .before .before .before .pre .0 .1) .activities .1, c .before .before .before .before .before .before .loop-test .taken)) ∙ c .if3 .taken)) (omega (arith, c .before .before .before .before .before .before .before .loop .inv .held)) (c .before .before .before .before .before .before .before .loop .inv .sized) (ap length (c .before .before .before .before .before .before .before .loop .inv .same))
-
-mul-candidates : tie.Need-mul-candidates Inv-loop μ-loop Inv-tasks μ-tasks
-mul-candidates c = omega (arith, c .before .before .before .before .before .before .before .loop .inv .held, c .before .before .before .before .before .before .before .before .before .before .before .tasks .inv .fewer, c .before .before .before .before .before .before .before .before .before .if1 .taken, (c .before .before .before .before .before .before .before .before .before .before .before .before .before .before .before .before .pre .0 .1) .tasks .1, ap length (c .before .before .before .before .before .before .before .loop .inv .same), c .before .before .before .before .before .before .before .before .before .before .before .tasks .inv .cells, c .before .before .before .before .before .before .before .before .before .before .before .before .before .before .before .before .pre .1 .1)
-
-slice-write-candidates : tie.Need-slice-write-candidates Inv-loop μ-loop Inv-tasks μ-tasks
-slice-write-candidates c = omega (arith, c .before .before .before .before .before .before .before .loop .inv .held, c .before .before .before .before .before .before .before .before .before .before .before .tasks .inv .fewer, c .before .before .before .before .before .before .before .before .before .if1 .taken, (c .before .before .before .before .before .before .before .before .before .before .before .before .before .before .before .before .pre .0 .1) .tasks .1, ap length (c .before .before .before .before .before .before .before .loop .inv .same), c .before .before .before .before .before .before .before .before .before .before .before .tasks .inv .cells, c .before .before .before .before .before .before .before .before .before .before .before .before .before .before .before .before .pre .1 .1)
-
-add-found : tie.Need-add-found Inv-loop μ-loop Inv-tasks μ-tasks
-add-found c = omega (arith, c .before .before .before .before .before .before .before .loop .inv .held, c .before .before .before .before .before .before .before .before .before .before .before .tasks .inv .fewer, c .before .before .before .before .before .before .before .before .before .if1 .taken, (c .before .before .before .before .before .before .before .before .before .before .before .before .before .before .before .before .pre .0 .1) .tasks .1)
-
-tasks-less-3 : tie.Need-tasks-less-3 Inv-loop μ-loop Inv-tasks μ-tasks
-tasks-less-3 c = search needs
-
-tasks-again-3 : tie.Need-tasks-again-3 Inv-loop μ-loop Inv-tasks μ-tasks
-tasks-again-3 c =
-    scan-again (c .before .before .before .before .before .before .before .before .before .before .before .tasks .inv) (c .before .before .before .before .before .before .before .before .before .before .before .before .before .before .before .before .pre .0 .1) (c .before .before .before .before .before .before .before .before .before .if1 .taken) (c .before .before .before .before .before .before .before .before .steps .result) (c .before .before .before .before .before .before .before .before .steps .ensures) (step-found (c .before .before .before .before .before .before .before .loop .inv) (c .before .before .before .before .before .before .loop-test .taken) (sym (c .before .before .before .before .stops .ensures) ∙ granted (c .before .before .before .before .stops .result) (c .before .before .before .if2 .left)) (sym (c .before .waits .ensures (problemOf (words (now (c .before .before .before .before .before .before .before .before .before .before .before .before .before .before .before .before .args .s))) (c .before .before .before .before .before .before .before .before .before .before .before .before .before .before .before .before .args .z)) (naming-of (c .before .before .before .before .before .before .before .before .before .before .before .before .before .before .before .before .pre .0 .1) (c .before .before .before .before .before .before .before .before .before .before .before .before .before .before .before .before .pre .0 .2)) omega (arith, task-within (c .before .before .before .before .before .before .before .before .before .before .before .before .before .before .before .before .pre .0 .1) (c .before .before .before .before .before .before .before .before .before .before .before .tasks .t) (c .before .before .before .before .before .before .before .before .before .if1 .taken), c .before .before .before .before .before .before .before .before .before .before .before .tasks .inv .here, c .before .before .before .before .before .before .before .before .steps .ensures, c .before .before .before .before .before .before .before .loop .inv .sized, c .before .before .before .before .before .before .before .before .before .before .before .tasks .inv .flags, c .before .before .before .before .before .before .before .before .before .before .before .before .before .before .before .before .pre .1 .0, (c .before .before .before .before .before .before .before .before .before .before .before .before .before .before .before .before .pre .0 .1) .activities .1, c .before .before .before .before .before .before .loop-test .taken)) ∙ c .if3 .left) (omega (arith, c .before .before .before .before .before .before .before .loop .inv .held, c .before .before .before .before .before .before .before .before .before .before .before .tasks .inv .fewer, c .before .before .before .before .before .before .before .before .before .if1 .taken, (c .before .before .before .before .before .before .before .before .before .before .before .before .before .before .before .before .pre .0 .1) .tasks .1, ap length (c .before .before .before .before .before .before .before .loop .inv .same), c .before .before .before .before .before .before .before .before .before .before .before .tasks .inv .cells, c .before .before .before .before .before .before .before .before .before .before .before .before .before .before .before .before .pre .1 .1))) (omega (arith, c .before .before .before .before .before .before .before .loop .inv .held)) (c .before .before .before .before .before .before .before .loop .inv .sized) (length-set (c .before .before .before .before .before .before .before .loop .candidates) (c .before .before .before .before .before .before .before .loop .found) _ ∙ ap length (c .before .before .before .before .before .before .before .loop .inv .same))
-
-same-length : tie.Need-same-length Inv-loop μ-loop Inv-tasks μ-tasks
-same-length c = c .before .before .tasks .inv .flags
-
-same-length-2 : tie.Need-same-length-2 Inv-loop μ-loop Inv-tasks μ-tasks
-same-length-2 c = c .before .before .tasks .inv .cells
-
-returns : tie.Need-returns Inv-loop μ-loop Inv-tasks μ-tasks
-returns c =
-    (scan-end (c .before .before .tasks .inv) (c .if1 .left), omega (arith, c .before .before .tasks .inv .fewer, c .before .before .tasks .inv .within, (c .before .before .before .before .before .before .before .pre .0 .1) .tasks .1), scan-long (c .before .before .tasks .inv) (c .if1 .left) (omega (arith, c .before .before .tasks .inv .fewer, c .before .before .tasks .inv .within, (c .before .before .before .before .before .before .before .pre .0 .1) .tasks .1, c .before .before .tasks .inv .cells, c .before .before .before .before .before .before .before .pre .1 .1)))
+returns : tie.Need-returns Inv-loop μ-loop
+returns c = (scan-end (c .before .before .before .before .before .before .before .before .before .before .before .before .pre .0 .1) (c .before .before .loop .inv) (c .if1 .left), omega (arith, c .before .before .loop .inv .fewer, c .before .before .loop .inv .within, (c .before .before .before .before .before .before .before .before .before .before .before .before .pre .0 .1) .tasks .1), sym (length-take-le (c .before .before .loop .found) (c .before .before .loop .offered) (omega (arith, c .before .before .loop .inv .fewer, c .before .before .loop .inv .within, (c .before .before .before .before .before .before .before .before .before .before .before .before .pre .0 .1) .tasks .1, c .before .before .loop .inv .cells, c .before .before .before .before .before .before .before .before .before .before .before .before .pre .1 .0 .2))))
 
 pub scan-spec : {M : Type 1} → statement M
 scan-spec =
@@ -123,31 +66,17 @@ scan-spec =
     (tie.spec
     Inv-loop
     μ-loop
-    Inv-tasks
-    μ-tasks
-    tasks-holds
-    steps-requires
-    cast-steps
-    add-first
-    add-t
     loop-holds
-    tasks-less
-    tasks-again
-    add-a
-    add-i
-    stops-requires
-    mul-settled
-    slice-write-settled
+    add-t
+    scan-task-requires
     loop-less
     loop-again
-    waits-requires
-    tasks-less-2
-    tasks-again-2
-    mul-candidates
-    slice-write-candidates
+    mul-offered
+    slice-write-offered
     add-found
-    tasks-less-3
-    tasks-again-3
+    loop-less-2
+    loop-again-2
     same-length
     same-length-2
+    same-length-3
     returns)

@@ -6,7 +6,8 @@ use Rattle.plan.specs.Input.{problemOf, genesOf}
 use Rattle.calls.specs.Outcome.{answerOf}
 use Rattle.calls.proofs.SheetLaws.{leaves-as}
 use Rattle.decoding.specs.Rule.{ruleOf}
-use Rattle.decoding.proofs.BoardLaws.{rule-sound, rows-there, rows-long, laid-by, laid-sheet}
+use Rattle.decode.proofs.EndLaws.{rows-there, rows-long}
+use Rattle.decoding.proofs.BoardLaws.{rule-sound, laid-by, laid-sheet}
 use borrow.Author.Needs.{needs}
 use Rattle.decoding.proofs.placed.write_in.Statement.{statement}
 use Rattle.decoding.proofs.placed.write_in.Tie as tie

@@ -1,4 +1,4 @@
--- `active::choosing::seat_of` meets its contract.
+-- `active::seats::seat_of` meets its contract.
 use native.Mathlib.Omega.{arith}
 use denote.Ref.{now}
 use Rattle.words.specs.Words.{words}
@@ -7,8 +7,8 @@ use Rattle.genes.proofs.MachineLaws.{assigned-known}
 use Rattle.board.proofs.SeatLaws.{last-below}
 use Rattle.active.proofs.SeatNowLaws.{one-below, from-known, way-small, seat-now-is}
 use borrow.Author.Needs.{needs}
-use Rattle.active.proofs.choosing.seat_of.Statement.{statement}
-use Rattle.active.proofs.choosing.seat_of.Tie as tie
+use Rattle.active.proofs.seats.seat_of.Statement.{statement}
+use Rattle.active.proofs.seats.seat_of.Tie as tie
 
 machine-from-requires : tie.Need-machine-from-requires
 machine-from-requires c κs = (c .before .before .before .before .before .pre .0 .0, one-below (c .before .before .before .before .before .args .z .activities) (c .before .before .before .before .before .args .a) (c .before .before .before .before .before .pre .1 .0))
