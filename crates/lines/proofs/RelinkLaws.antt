@@ -1,10 +1,10 @@
 -- A line that is linked again: the arrays then hold it, and hold every other line as they did. Assumes nothing.
 use mathlib.Core.Path.{_≡_, refl, sym, ap, _∙_, subst}
 use mathlib.Core.List.{List, [], _∷_, _++_, append-nil}
-use Prim.Native.Nat.{ℕ, zero, suc, _+_, _-_, _≤_, _<_}
+use Prim.Native.Nat.{ℕ, zero, suc, _+_, _≤_, _<_}
 use native.Mathlib.Omega.{arith}
 use native.Mathlib.Numerals.{add-one}
-use lib.ListN.{length, getD, set, take, drop, length-append, length-set, drop-of-length-le}
+use lib.ListN.{length, getD, set, take, drop, length-set, drop-of-length-le}
 use lib.Seq.{drop-cons, getD-take, length-take-le}
 use borrow.Author.Tests.{eq-eqb, ne-eqb, lt-ltb, le-ltb}
 use Rattle.graph.specs.Counting.{countOf, Below}
@@ -12,10 +12,23 @@ use Rattle.graph.specs.Filing.{naming}
 use Rattle.graph.specs.Links.{linkOf}
 use Rattle.graph.proofs.CountingLaws.{either, hit-eq, hit-ne, below-of, below-more}
 use Rattle.graph.proofs.NamingLaws.{naming-below}
-use Rattle.lines.specs.Lines.{Lines, standing, rest, befores, afters, firstOf, holder, machineOf, placeOn, positionOf, WellFormed}
-use Rattle.lines.specs.Linking.{Links, linksOf, written, marked, numbered, lineRelinked, Roomy, AllBelow, LinesHeld, HeldAt, LineHeld}
+use Rattle.lines.specs.Lines.{Lines, standing, rest, befores, afters, firstOf, holder, placeOn, positionOf, WellFormed}
+use Rattle.lines.specs.Linking.{Links, linksOf, written, marked, numbered, lineRelinked, Roomy, AllBelow, LinesHeld}
 use Rattle.lines.proofs.LineLaws.{naming-few, rest-few, befores-few, afters-few, below-rest, lines-below, at-most-once}
 use Rattle.lines.proofs.LinkLaws.{lastOr, written-at, written-length, marked-length, marked-in, marked-out, numbered-length, numbered-in, numbered-out, link-first}
+
+-- ---- one line is held
+
+-- the arrays hold what is to be known of one activity of machine m's line
+pub record HeldAt (n m : ℕ) (l : List ℕ) (k : Links) (a : ℕ) : Type 0 where
+  pub pred : linkOf (take n (k .before)) a ≡ firstOf (naming a l (rest l))
+  pub succ : linkOf (take n (k .after)) a ≡ firstOf (naming a (rest l) l)
+  pub on : getD (k .machines) a 0 ≡ m
+  pub at : getD (k .places) a 0 ≡ placeOn l a
+
+-- .. of each that stands on it
+abbrev pub LineHeld : (n m : ℕ) → List ℕ → Links → Type 0
+LineHeld n m l k = (a : ℕ) → 0 < countOf a l → HeldAt n m l k a
 
 -- ---- `relink_line`: those from i on are left, behind the one before them
 

@@ -4,10 +4,9 @@ use mathlib.Core.Path.{_≡_}
 use mathlib.Core.List.{List, [], _∷_, _++_}
 use Prim.Native.Nat.{ℕ, _+_, _≤_, _<_}
 use lib.ListN.{length, getD, set, take}
-use Rattle.graph.specs.Counting.{countOf, Below}
-use Rattle.graph.specs.Filing.{naming}
+use Rattle.graph.specs.Counting.{Below}
 use Rattle.graph.specs.Links.{linkOf}
-use Rattle.lines.specs.Lines.{Lines, rest, firstOf, linePred, lineSucc, machineOf, placeOn, positionOf}
+use Rattle.lines.specs.Lines.{Lines, rest, linePred, lineSucc, machineOf, positionOf}
 
 -- of each activity: who stands right before it and right after it, its machine, and its place on the line
 pub record Links : Type 0 where
@@ -39,7 +38,7 @@ numbered (k ∷ ks) i c = numbered ks (i + 1) (set c k i)
 abbrev pub lineLinked : ℕ → List ℕ → Links → Links
 lineLinked m l k = linksOf (written (rest l) l (k .before)) (written l (rest l) (k .after)) (marked l m (k .machines)) (numbered l 0 (k .places))
 
--- .. over another line's links: n is written too, before its first and after its last
+-- .. over what was written before: n too, before its first and after its last
 abbrev pub lineRelinked : (n m : ℕ) → List ℕ → Links → Links
 lineRelinked n m l k = linksOf (written l (n ∷ l) (k .before)) (written l (rest l ++ (n ∷ [])) (k .after)) (marked l m (k .machines)) (numbered l 0 (k .places))
 
@@ -66,14 +65,3 @@ pub record LinesHeld (n : ℕ) (lines : Lines) (k : Links) : Type 0 where
   pub succs : (a : ℕ) → a < n → linkOf (take n (k .after)) a ≡ lineSucc lines a
   pub on : (a : ℕ) → a < n → getD (k .machines) a 0 ≡ machineOf lines a
   pub at : (a : ℕ) → a < n → getD (k .places) a 0 ≡ positionOf lines a
-
--- the arrays hold what is to be known of one activity of machine m's line
-pub record HeldAt (n m : ℕ) (l : List ℕ) (k : Links) (a : ℕ) : Type 0 where
-  pub pred : linkOf (take n (k .before)) a ≡ firstOf (naming a l (rest l))
-  pub succ : linkOf (take n (k .after)) a ≡ firstOf (naming a (rest l) l)
-  pub on : getD (k .machines) a 0 ≡ m
-  pub at : getD (k .places) a 0 ≡ placeOn l a
-
--- .. of each that stands on it
-abbrev pub LineHeld : (n m : ℕ) → List ℕ → Links → Type 0
-LineHeld n m l k = (a : ℕ) → 0 < countOf a l → HeldAt n m l k a

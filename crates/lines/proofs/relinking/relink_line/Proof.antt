@@ -1,5 +1,5 @@
 -- `lines::relinking::relink_line` meets its contract. The loop's invariant: those that are left write from here what all but the first write. Assumes nothing.
-use Prim.Native.Nat.{_+_, _-_}
+use Prim.Native.Nat.{_-_}
 use mathlib.Core.Path.{_∙_}
 use native.Mathlib.Omega.{arith}
 use lib.ListN.{length, getD, length-set}
