@@ -13,6 +13,7 @@ pub mod check;
 pub mod damage;
 pub mod decode_check;
 pub mod decoding;
+pub mod driver;
 pub mod generate;
 #[cfg(test)]
 mod imitation;

@@ -112,14 +112,14 @@ fn dispatch(arguments: &[OsString]) -> Result<Said, String> {
             Ok(intake::check(&arguments[2..], number(inputs, "a number of inputs")?)?.into())
         }
         ["intake-check", program, ..] if !is_number(program) => Ok(intake::check(&arguments[1..], INTAKES)?.into()),
-        ["time-check"] => Ok(time_check::check(LIBRARY_INPUTS)?.into()),
-        ["time-check", inputs] => Ok(time_check::check(number(inputs, "a number of inputs")?)?.into()),
-        ["decode-check"] => Ok(decode_check::check(LIBRARY_INPUTS)?.into()),
-        ["decode-check", inputs] => Ok(decode_check::check(number(inputs, "a number of inputs")?)?.into()),
+        ["time-check"] => Ok(time_check::CHECK.run(LIBRARY_INPUTS)?.into()),
+        ["time-check", inputs] => Ok(time_check::CHECK.run(number(inputs, "a number of inputs")?)?.into()),
+        ["decode-check"] => Ok(decode_check::CHECK.run(LIBRARY_INPUTS)?.into()),
+        ["decode-check", inputs] => Ok(decode_check::CHECK.run(number(inputs, "a number of inputs")?)?.into()),
         ["sheet-check"] => Ok(sheet_check::check(SHEETS)?.into()),
         ["sheet-check", sheets] => Ok(sheet_check::check(number(sheets, "a number of sheets")?)?.into()),
-        ["improve-check"] => Ok(improve_check::check(LIBRARY_INPUTS)?.into()),
-        ["improve-check", inputs] => Ok(improve_check::check(number(inputs, "a number of inputs")?)?.into()),
+        ["improve-check"] => Ok(improve_check::CHECK.run(LIBRARY_INPUTS)?.into()),
+        ["improve-check", inputs] => Ok(improve_check::CHECK.run(number(inputs, "a number of inputs")?)?.into()),
         ["time-bench"] => Ok(time_bench::bench()?.into()),
         ["time-bench", "--only", side, plan, times] => {
             let times = number(times, "a number of timings")?;
