@@ -46,8 +46,7 @@ impl Check {
     /// What comes of one.
     pub fn of_input(&self, calls: &dyn Calls, input: &Input) -> Tally {
         let mut run = self.begun(calls, input.name.clone(), input.seed);
-        run.tally.inputs = 1;
-        run.tally.beyond = u64::from(input.beyond);
+        run.tally = input.tally(self.table.columns.len());
         (self.on_plan)(&mut run, &input.plan);
         run.tally
     }
@@ -67,7 +66,7 @@ impl Check {
 /// A generated plan.
 pub struct Input {
     pub plan: Plan,
-    name: String,
+    pub name: String,
     /// Other for each class.
     seed: u64,
     beyond: bool,
@@ -78,6 +77,16 @@ impl Input {
         let plan = generate::plan(seed, class);
         let beyond = !beyond_the_rust(&plan).is_empty();
         Input { plan, name: format!("{} {seed}", class.name()), seed: seed ^ (class as u64) << 40, beyond }
+    }
+
+    /// Nothing counted yet but the input.
+    pub fn tally(&self, columns: usize) -> Tally {
+        Tally { inputs: 1, beyond: u64::from(self.beyond), ..Tally::new(columns) }
+    }
+
+    /// The plan with one to three faults.
+    pub fn damaged(&self) -> Vec<u8> {
+        damage::damage(&self.plan.to_bytes(), self.seed)
     }
 }
 

@@ -13,6 +13,7 @@ pub mod check;
 pub mod damage;
 pub mod decode_check;
 pub mod decoding;
+pub mod differential;
 pub mod driver;
 pub mod generate;
 #[cfg(test)]
@@ -25,6 +26,7 @@ pub mod lines;
 pub mod modes;
 pub mod paper;
 pub mod plan;
+pub mod program;
 pub mod proved;
 pub mod published;
 pub mod read;

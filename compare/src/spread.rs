@@ -36,8 +36,8 @@ pub fn spread<T: Send>(name: &str, inputs: u64, of: impl Fn(u64) -> T + Sync) ->
     done.into_iter().map(|(_, come)| come).collect()
 }
 
-/// Whether anybody reads it does not matter.
-fn progress(line: &str) {
+/// A line to standard error; whether anybody reads it does not matter.
+pub fn progress(line: &str) {
     use std::io::Write;
     let _ = writeln!(std::io::stderr(), "{line}");
 }

@@ -35,7 +35,7 @@ impl Tally {
         Tally { inputs: 0, beyond: 0, counts: vec![0; columns], differences: Vec::new() }
     }
 
-    fn add(&mut self, other: Tally) {
+    pub fn add(&mut self, other: Tally) {
         self.inputs += other.inputs;
         self.beyond += other.beyond;
         self.counts.iter_mut().zip(other.counts).for_each(|(to, from)| *to += from);
@@ -77,8 +77,6 @@ impl Table<'_> {
 
     /// A row for each tally; then the differences; then a line with the sum of the counts, called `counted`.
     pub fn report(&self, tallies: Vec<(&str, Tally)>, counted: &str) -> Result<Report, String> {
-        // What an earlier run saved would be taken for this one's.
-        let _ = std::fs::remove_dir_all(FOLDER);
         let heads: String = self.columns.iter().map(|head| format!("{head:>9}")).collect();
         let mut text = format!("{:<18}{:>8}{:>9}{heads}\n", "class", "inputs", "beyond");
         let mut all = Tally::new(self.columns.len());
@@ -87,9 +85,7 @@ impl Table<'_> {
             all.add(tally);
         }
         text += &all.row("all");
-        for difference in all.differences.iter().take(TOLD).enumerate() {
-            let _ = writeln!(text, "difference: {}", saved(difference)?);
-        }
+        text += &told(&all.differences)?;
         let (sum, differences) = (all.counts.iter().sum::<u64>(), all.differences.len());
         let _ = writeln!(text, "{}: {} inputs, {sum} {counted}, {differences} differences", self.name, all.inputs);
         Ok(Report { text, differences })
@@ -106,6 +102,14 @@ impl Table<'_> {
 pub fn in_turns(k: u64) -> (Class, u64) {
     let classes = Class::ALL.len() as u64;
     (Class::ALL[(k % classes) as usize], k / classes)
+}
+
+/// A line for each of the first differences; what shows them is saved.
+pub fn told(differences: &[Difference]) -> Result<String, String> {
+    // What an earlier run saved would be taken for this one's.
+    let _ = std::fs::remove_dir_all(FOLDER);
+    let lines = differences.iter().take(TOLD).enumerate().map(|each| Ok(format!("difference: {}\n", saved(each)?)));
+    lines.collect()
 }
 
 /// The difference with the names of the files that show it.

@@ -42,7 +42,7 @@ fn said<S: AsRef<OsStr> + std::fmt::Debug>(arguments: &[S], input: &[u8]) -> Str
 #[test]
 fn bad_arguments_are_one_line_and_2() {
     let here = env!("CARGO_MANIFEST_DIR");
-    let bad: [&[&str]; 65] = [
+    let bad: [&[&str]; 71] = [
         &[],
         &["no-such-mode"],
         &[""],
@@ -94,6 +94,12 @@ fn bad_arguments_are_one_line_and_2() {
         &["decode-check", "1", "2"],
         &["sheet-check", "x"],
         &["sheet-check", "1", "2"],
+        &["program-check"],
+        &["program-check", "1"],
+        &["program-check", "1", "no/such/program"],
+        &["differential"],
+        &["differential", "1"],
+        &["differential", "no/such/program"],
         &["improve-check", "x"],
         &["improve-check", "1", "2"],
         &["time-bench", "x"],
