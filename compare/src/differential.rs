@@ -7,7 +7,7 @@ use std::time::Instant;
 use crate::check::{turn, Report};
 use crate::driver::{Check, Input};
 use crate::program::{self, Program};
-use crate::proved::Library;
+use crate::proved::{Calls, Library};
 use crate::spread::progress;
 use crate::tally::{told, Table, Tally};
 use crate::{decode_check, improve_check, sheet_check, time_check};
@@ -26,25 +26,39 @@ pub fn check(program: &[OsString], inputs: u64) -> Result<Report, String> {
     let calls: Vec<&str> = CHECKS.iter().flat_map(|check| check.calls).copied().collect();
     let library = Library::linked(&calls)?;
     let program = Program::new(program)?;
-    let tables = CHECKS.map(|check| &check.table).into_iter().chain([&program::TABLE]);
-    let tables: Vec<&Table> = tables.collect();
-    let columns: Vec<&str> = tables.iter().flat_map(|table| table.columns).copied().collect();
+    let (tables, columns) = tables();
     let begun = Instant::now();
-
-    let of_input = |class, seed| {
-        let input = Input::new(class, seed);
-        let by_checks = CHECKS.iter().map(|check| check.of_input(&library, &input));
-        let by_program = match seed % SHARE {
-            0 => program.of_input(&input),
-            _ => input.tally(program::TABLE.columns.len()),
-        };
-        joined(by_checks.chain([by_program]))
-    };
-    let mut tallies = Table { name: "differential", columns: &columns }.tallies(inputs, turn, of_input);
+    let mut tallies = generated(&library, &columns, inputs, |input| program.of_input(input));
     let of_extremes = CHECKS.iter().map(|check| check.extremes(&library));
     tallies.push(("extremes", joined(of_extremes.chain([program.of_extremes()]))));
     progress(&format!("differential: {} seconds", begun.elapsed().as_secs()));
     summary(&tables, &columns, tallies)
+}
+
+/// The checks' tables and the program's, and all their columns.
+fn tables() -> (Vec<&'static Table<'static>>, Vec<&'static str>) {
+    let tables: Vec<&Table> = CHECKS.iter().map(|check| &check.table).chain([&program::TABLE]).collect();
+    let columns = tables.iter().flat_map(|table| table.columns).copied().collect();
+    (tables, columns)
+}
+
+/// What comes of generated inputs, by class.
+fn generated(
+    calls: &dyn Calls,
+    columns: &[&str],
+    inputs: u64,
+    by_program: impl Fn(&Input) -> Tally + Sync,
+) -> Vec<(&'static str, Tally)> {
+    let of_input = |class, seed| {
+        let input = Input::new(class, seed);
+        let by_checks = CHECKS.iter().map(|check| check.of_input(calls, &input));
+        let by_program = match seed % SHARE {
+            0 => by_program(&input),
+            _ => input.tally(program::TABLE.columns.len()),
+        };
+        joined(by_checks.chain([by_program]))
+    };
+    Table { name: "differential", columns }.tallies(inputs, turn, of_input)
 }
 
 /// What several checks made of the same inputs: their counts side by side.
@@ -94,4 +108,38 @@ fn row(name: &str, columns: &[&str], tally: &Tally) -> String {
     let answered = calls - numbers.iter().sum::<u64>();
     let (Tally { inputs, beyond, .. }, numbers) = (tally, numbers.map(|count| format!("{count:>8}")).concat());
     format!("{name:<18}{inputs:>8}{beyond:>8}{calls:>9}{answered:>9}{numbers}{:>13}\n", tally.differences.len())
+}
+
+#[cfg(test)]
+mod tests {
+    use super::*;
+    use crate::imitation::{finds, Fault, Imitation};
+
+    #[test]
+    fn a_fault_of_any_call_is_found() {
+        let check =
+            |calls: &Imitation| generated(calls, &tables().1, 96, |input| input.tally(program::TABLE.columns.len()));
+        finds(
+            check,
+            &[Fault::LastBit, Fault::AlwaysInOrder, Fault::RowsFromOne, Fault::NotImproved, Fault::PlaceRefused],
+        );
+    }
+
+    #[test]
+    fn the_summary_counts_every_call_once() {
+        let (tables, columns) = tables();
+        let tallies = generated(&Imitation(Fault::Nothing), &columns, 32, |input| Tally {
+            counts: vec![1; program::TABLE.columns.len()],
+            ..input.tally(0)
+        });
+        let calls: u64 = tallies.iter().flat_map(|(_, tally)| &tally.counts).sum();
+        let report = summary(&tables, &columns, tallies).unwrap_or_else(|why| panic!("{why}"));
+        assert_eq!(
+            report.text.lines().last(),
+            Some(format!("differential: 32 inputs, {calls} calls, 0 differences").as_str())
+        );
+        let all = report.text.lines().find(|line| line.starts_with("all ")).unwrap_or_default();
+        let numbers: Vec<u64> = all.split_ascii_whitespace().skip(1).map(|word| word.parse().unwrap_or(0)).collect();
+        assert_eq!((numbers[0], numbers[2], numbers[3..16 + 1].iter().sum::<u64>()), (32, calls, calls), "{all}");
+    }
 }

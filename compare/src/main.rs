@@ -6,17 +6,16 @@ use std::io::{Read, Write};
 use std::process::ExitCode;
 
 use compare::bench::Side;
-use compare::call_bench::{self, Work};
 use compare::check::{self, Report};
 use compare::generate::{self, Class};
 use compare::modes::{answer, Mode};
 use compare::{
-    board, damage, decode_check, differential, improve_check, intake, lines, program, sheet_check, store, text,
-    time_bench, time_check,
+    board, damage, decode_check, differential, improve_check, intake, lines, program, sheet_check, speed, store, text,
+    time_check,
 };
 
 /// Every way to call the tools; the first one stands for all modes.
-const USAGES: [&str; 20] = [
+const USAGES: [&str; 18] = [
     "MODE [INPUT [LINES]]",
     "to-text [INPUT]",
     "from-text [TEXT]",
@@ -31,9 +30,7 @@ const USAGES: [&str; 20] = [
     "improve-check [N]",
     "program-check [N] PROGRAM...",
     "differential [N] PROGRAM...",
-    "time-bench [--only SIDE PLAN TIMES]",
-    "decode-bench [--only SIDE PLAN TIMES]",
-    "improve-bench [--only SIDE PLAN TIMES]",
+    "speed [WORK... | --only SIDE WORK PLAN TIMES]",
     "store [FOLDER]",
     "answers-check [FOLDER]",
     "board",
@@ -126,21 +123,11 @@ fn dispatch(arguments: &[OsString]) -> Result<Said, String> {
         }
         ["program-check", rest @ ..] if names_program(rest) => with_program(&arguments[1..], RUNS, program::check),
         ["differential", rest @ ..] if names_program(rest) => with_program(&arguments[1..], ALL, differential::check),
-        ["time-bench"] => Ok(time_bench::bench()?.into()),
-        ["time-bench", "--only", side, plan, times] => {
-            let times = number(times, "a number of timings")?;
-            Ok(time_bench::only(side_of(side)?, plan, times as usize)?.into())
+        ["speed", "--only", side, work, plan, times] => {
+            let times = number(times, "how often")?;
+            Ok(speed::only(side_of(side)?, work, plan, times as usize)?.into())
         }
-        ["decode-bench"] => Ok(call_bench::bench(Work::Decode)?.into()),
-        ["decode-bench", "--only", side, plan, times] => {
-            let times = number(times, "a number of calls")?;
-            Ok(call_bench::only(Work::Decode, side_of(side)?, plan, times as usize)?.into())
-        }
-        ["improve-bench"] => Ok(call_bench::bench(Work::Improve)?.into()),
-        ["improve-bench", "--only", side, plan, times] => {
-            let times = number(times, "a number of calls")?;
-            Ok(call_bench::only(Work::Improve, side_of(side)?, plan, times as usize)?.into())
-        }
+        ["speed", works @ ..] => Ok(speed::bench(works)?.into()),
         ["store"] => Ok(store::store(store::FOLDER.as_ref())?.into()),
         ["store", _] => Ok(store::store(file(1).as_ref())?.into()),
         ["answers-check"] => Ok(store::check(store::FOLDER.as_ref())?.into()),
