@@ -3,9 +3,8 @@
 
 use std::fmt::Write;
 use std::hint::black_box;
-use std::time::Instant;
 
-use crate::bench::{by_turns, instructions, short, stack, Measured, Side};
+use crate::bench::{by_turns, clock, instructions, short, stack, Measured, Side};
 use crate::generate::{self, Class, Rng};
 use crate::plan::{Plan, Task, Times};
 use crate::proved::{Answer, Buffers, Calls, Checked, Ended, Genes, Given, Library, CELLS, MACHINES, PLACES, STRETCH};
@@ -151,12 +150,12 @@ impl Asked {
 
     fn seconds_of_rust(&self, times: usize) -> f64 {
         if let Work::Improve(_) = self.work {
-            return self.published.improve_again(times).as_secs_f64();
+            return self.published.improve_again(times);
         }
-        let begun = Instant::now();
+        let begun = clock();
         if self.work == Work::Time {
             seen(self.published.time_again(&self.lines, times));
-            return begun.elapsed().as_secs_f64();
+            return clock() - begun;
         }
         for _ in 0..times {
             match self.work {
@@ -164,15 +163,15 @@ impl Asked {
                 _ => seen(black_box(&self.published).decode(Decoder::Better)),
             }
         }
-        begun.elapsed().as_secs_f64()
+        clock() - begun
     }
 
     fn seconds_of_library(&self, library: Library, times: usize) -> f64 {
         let mut lent = Lent::new();
-        let begun = Instant::now();
+        let begun = clock();
         if self.work == Work::Time {
             seen(library.time_again(&self.bytes, &self.given, times));
-            return begun.elapsed().as_secs_f64();
+            return clock() - begun;
         }
         for _ in 0..times {
             let bytes = black_box(&self.bytes);
@@ -183,7 +182,7 @@ impl Asked {
                 Work::Improve(_) => seen(library.improve(bytes, &mut lent.cells, &mut lent.genes)),
             }
         }
-        begun.elapsed().as_secs_f64()
+        clock() - begun
     }
 
     /// Microseconds of one time on each side, by turns.
