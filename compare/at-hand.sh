@@ -2,6 +2,14 @@
 # What the scripts that call the proved library share. They read it at the repository's root.
 
 archive=target/staticlib/liblibrary.a
+# A relative folder is seen from where the script was called.
+case ${LAVKKESTO_RUST-} in
+'' | /*) ;;
+*)
+    LAVKKESTO_RUST=$OLDPWD/$LAVKKESTO_RUST
+    export LAVKKESTO_RUST
+    ;;
+esac
 rust=${LAVKKESTO_RUST:-../shared/docs/src}
 mkdir -p compare/target || exit 2
 

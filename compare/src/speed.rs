@@ -15,11 +15,9 @@ use crate::timing;
 /// One measurement takes about so many seconds: the call is repeated until then.
 const SECONDS: f64 = 0.02;
 
-/// One timing is what a call with many timings takes more than one with few, so that taking the plan in plays no part; the
-/// same for counts of instructions, which do not waver.
+/// One timing is what a call with many timings takes more than one with few, so that taking the plan in plays no part.
 const FEW: usize = 200;
 const MANY: usize = 4_200;
-const COUNTED: [usize; 2] = [100, 1_100];
 
 #[derive(Clone, Copy, Debug, PartialEq, Eq)]
 pub enum Work {
@@ -45,6 +43,17 @@ impl Work {
         let found = Work::ALL.into_iter().find(|(own, _)| *own == name);
         let known = || Work::ALL.map(|(own, _)| own).join(", ");
         found.map(|(_, work)| work).ok_or_else(|| format!("works are {}, not '{}'", known(), name.escape_debug()))
+    }
+
+    /// Instructions are those of a run with many calls less those of one with few.
+    fn counted(self) -> [usize; 2] {
+        match self {
+            Work::Read => [1, 101],
+            Work::Time => [100, 1_100],
+            Work::Decode => [1, 51],
+            Work::Improve(60) => [1, 6],
+            Work::Improve(_) => [1, 2],
+        }
     }
 
     fn name(self) -> &'static str {
@@ -228,8 +237,7 @@ impl Asked {
         let [rust, proved] = [0, 1].map(|side| Measured::new(pairs.iter().map(|pair| pair[side])));
         let ratios = Measured::new(pairs.iter().map(|[rust, proved]| proved / rust));
         let ratio = format!("{} {}", short(proved.median() / rust.median()), ratios.spread());
-        let few_many = if self.work == Work::Time { COUNTED } else { [1, 2] };
-        let counted = match instructions(self.work.name(), plan, few_many) {
+        let counted = match instructions(self.work.name(), plan, self.work.counted()) {
             Ok([rust, proved]) => format!("{rust:.0} | {proved:.0} | {}", short(proved / rust)),
             Err(why) => format!("not counted: {why} | |"),
         };

@@ -6,13 +6,16 @@ use std::path::Path;
 
 use crate::check::Report;
 use crate::generate::{self, Class};
-use crate::spread::spread;
+use crate::spread::part;
 
 /// Where the inputs of differences are saved.
 const FOLDER: &str = concat!(env!("CARGO_MANIFEST_DIR"), "/target/differences");
 
 /// So many are told and saved; the others are counted.
 const TOLD: usize = 10;
+
+/// So many tallies are held at a time, however many inputs there are.
+const HELD: usize = 10_000;
 
 /// What came of some inputs.
 pub struct Tally {
@@ -62,15 +65,17 @@ impl Table<'_> {
         turn: impl Fn(u64) -> (Class, u64) + Sync,
         of: impl Fn(Class, u64) -> Tally + Sync,
     ) -> Vec<(&'static str, Tally)> {
-        let tallies = spread(self.name, inputs, |k| {
-            let (class, seed) = turn(k);
-            of(class, seed)
-        });
         let mut by_class: BTreeMap<usize, Tally> = BTreeMap::new();
-        for (k, tally) in tallies.into_iter().enumerate() {
-            let (class, seed) = turn(k as u64);
-            let of_class = by_class.entry(class as usize).or_insert_with(|| Tally::new(self.columns.len()));
-            of_class.add(tally.unwrap_or_else(|| self.crashed(class, seed)));
+        for begin in (0..inputs).step_by(HELD) {
+            let tallies = part(self.name, begin..inputs.min(begin + HELD as u64), inputs, |k| {
+                let (class, seed) = turn(k);
+                of(class, seed)
+            });
+            for (k, tally) in (begin..).zip(tallies) {
+                let (class, seed) = turn(k);
+                let of_class = by_class.entry(class as usize).or_insert_with(|| Tally::new(self.columns.len()));
+                of_class.add(tally.unwrap_or_else(|| self.crashed(class, seed)));
+            }
         }
         by_class.into_iter().map(|(class, tally)| (Class::ALL[class].name(), tally)).collect()
     }
