@@ -1,8 +1,5 @@
 //! Copies the published Rust text into the build folder, bodies unchanged, and appends the one line that lets
 //! `src/probe.rs` see the private items of `local_search`. Nothing of the text stays in the repository.
-//!
-//! Where LAVKKESTO_LIB names the proved library's archive, it is linked and the code is told by `cfg(proved)`, and by a
-//! `cfg` of its name of each call that the archive has.
 
 use std::env;
 use std::fs;
@@ -20,53 +17,12 @@ const TAKEN: [&str; 5] = [
     "validation.rs",
 ];
 
-/// The calls of the proved library that this package makes.
-const CALLS: [&str; 8] = [
-    "lavkkesto_time",
-    "lavkkesto_time_order",
-    "lavkkesto_time_again",
-    "lavkkesto_in_order",
-    "lavkkesto_active",
-    "lavkkesto_decode",
-    "lavkkesto_check",
-    "lavkkesto_improve",
-];
-
 fn main() {
     println!("cargo::rerun-if-env-changed=LAVKKESTO_RUST");
-    println!("cargo::rerun-if-env-changed=LAVKKESTO_LIB");
     println!("cargo::rerun-if-changed=build.rs");
-    println!("cargo::rustc-check-cfg=cfg(proved, {})", CALLS.join(", "));
-    if let Err(message) = take().and_then(|()| link()) {
+    if let Err(message) = take() {
         println!("cargo::error={message}");
     }
-}
-
-/// Links the archive that LAVKKESTO_LIB names, if it names one.
-fn link() -> Result<(), String> {
-    let archive = match env::var_os("LAVKKESTO_LIB") {
-        Some(archive) if !archive.is_empty() => PathBuf::from(archive),
-        _ => return Ok(()),
-    };
-    let name = archive.file_name().and_then(|name| name.to_str());
-    let name = name.and_then(|name| name.strip_prefix("lib")).and_then(|name| name.strip_suffix(".a"));
-    let (Some(name), true, Some(folder)) = (name, archive.is_file(), archive.parent()) else {
-        return Err(format!("LAVKKESTO_LIB: {} is no archive libNAME.a", archive.display()));
-    };
-    println!("cargo::rerun-if-changed={}", archive.display());
-    println!("cargo::rustc-link-search=native={}", folder.display());
-    println!("cargo::rustc-link-lib=static={name}");
-    println!("cargo::rustc-cfg=proved");
-    let bytes = fs::read(&archive).map_err(|why| format!("{}: {why}", archive.display()))?;
-    // A name in an archive's tables ends with a zero byte.
-    let has = |call: &&str| {
-        let name = format!("{call}\0");
-        bytes.windows(name.len()).any(|window| window == name.as_bytes())
-    };
-    for call in CALLS.into_iter().filter(has) {
-        println!("cargo::rustc-cfg={call}");
-    }
-    Ok(())
 }
 
 fn take() -> Result<(), String> {

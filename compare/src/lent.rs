@@ -2,7 +2,7 @@
 
 use crate::answers::Sheet;
 use crate::generate::Rng;
-use crate::proved::{Buffers, Genes, PLACES};
+use crate::proved::{Answer, Buffers, Genes, PLACES};
 use crate::read::Refused;
 
 pub const TOO_SHORT: Refused = Refused { number: 6, place: 0 };
@@ -50,8 +50,20 @@ pub fn written(mut buffers: Buffers, due: &Result<Sheet, Refused>) -> Buffers {
     buffers
 }
 
+/// How an answer, or a place of the buffers, is not as it must be.
+pub fn amiss(due: &Result<Sheet, Refused>, answer: Answer, before: Buffers, after: &Buffers) -> Option<String> {
+    let due_answer = match due {
+        Ok(sheet) => Answer::Rows { count: sheet.rows.len(), fitness: sheet.fitness },
+        Err(refused) => Answer::Refused(*refused),
+    };
+    match answer == due_answer {
+        true => differing(&written(before, due), after),
+        false => Some(format!("due {due_answer:x?}, not {answer:x?}")),
+    }
+}
+
 /// The first place where the buffers are not as they must be.
-pub fn differing(due: &Buffers, found: &Buffers) -> Option<String> {
+fn differing(due: &Buffers, found: &Buffers) -> Option<String> {
     first("activities", &due.activities, &found.activities)
         .or_else(|| first("machines", &due.machines, &found.machines))
         .or_else(|| first("starts", &due.starts, &found.starts))

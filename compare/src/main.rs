@@ -6,11 +6,12 @@ use std::io::{Read, Write};
 use std::process::ExitCode;
 
 use compare::bench::Side;
-use compare::call_bench::{self, Work};
+use compare::check::{self, Report};
 use compare::generate::{self, Class};
 use compare::modes::{answer, Mode};
 use compare::{
-    board, check, damage, decode_check, improve_check, intake, lines, sheet_check, store, text, time_bench, time_check,
+    board, damage, decode_check, differential, improve_check, intake, lines, program, sheet_check, speed, store, text,
+    time_check,
 };
 
 /// Every way to call the tools; the first one stands for all modes.
@@ -27,9 +28,9 @@ const USAGES: [&str; 18] = [
     "decode-check [N]",
     "sheet-check [N]",
     "improve-check [N]",
-    "time-bench [--only SIDE PLAN TIMES]",
-    "decode-bench [--only SIDE PLAN TIMES]",
-    "improve-bench [--only SIDE PLAN TIMES]",
+    "program-check [N] PROGRAM...",
+    "differential [N] PROGRAM...",
+    "speed [WORK... | --only SIDE WORK PLAN TIMES]",
     "store [FOLDER]",
     "answers-check [FOLDER]",
     "board",
@@ -50,6 +51,12 @@ const LIBRARY_INPUTS: u64 = 20_000;
 /// How many sheets `sheet-check` runs unless it is told.
 const SHEETS: u64 = 50_000;
 
+/// How many inputs `program-check` runs unless it is told.
+const RUNS: u64 = 2_000;
+
+/// How many inputs `differential` runs unless it is told.
+const ALL: u64 = 100_000;
+
 /// What goes to standard output, and whether a check found a difference.
 struct Said {
     bytes: Vec<u8>,
@@ -68,8 +75,8 @@ impl From<String> for Said {
     }
 }
 
-impl From<check::Report> for Said {
-    fn from(report: check::Report) -> Said {
+impl From<Report> for Said {
+    fn from(report: Report) -> Said {
         Said { bytes: report.text.into_bytes(), differs: report.differences > 0 }
     }
 }
@@ -106,35 +113,21 @@ fn dispatch(arguments: &[OsString]) -> Result<Said, String> {
             Ok(damage::damage(&stored(file(2))?, seed).into())
         }
         ["classes"] => Ok(Class::ALL.map(|class| format!("{}\n", class.name())).concat().into()),
-        ["check"] => Ok(check::check(INPUTS)?.into()),
-        ["check", inputs] => Ok(check::check(number(inputs, "a number of inputs")?)?.into()),
-        ["intake-check", inputs, _, ..] if is_number(inputs) => {
-            Ok(intake::check(&arguments[2..], number(inputs, "a number of inputs")?)?.into())
+        ["check", rest @ ..] if rest.len() < 2 => counted(rest, INPUTS, check::check),
+        ["intake-check", rest @ ..] if names_program(rest) => with_program(&arguments[1..], INTAKES, intake::check),
+        ["time-check", rest @ ..] if rest.len() < 2 => counted(rest, LIBRARY_INPUTS, |n| time_check::CHECK.run(n)),
+        ["decode-check", rest @ ..] if rest.len() < 2 => counted(rest, LIBRARY_INPUTS, |n| decode_check::CHECK.run(n)),
+        ["sheet-check", rest @ ..] if rest.len() < 2 => counted(rest, SHEETS, sheet_check::check),
+        ["improve-check", rest @ ..] if rest.len() < 2 => {
+            counted(rest, LIBRARY_INPUTS, |n| improve_check::CHECK.run(n))
         }
-        ["intake-check", program, ..] if !is_number(program) => Ok(intake::check(&arguments[1..], INTAKES)?.into()),
-        ["time-check"] => Ok(time_check::check(LIBRARY_INPUTS)?.into()),
-        ["time-check", inputs] => Ok(time_check::check(number(inputs, "a number of inputs")?)?.into()),
-        ["decode-check"] => Ok(decode_check::check(LIBRARY_INPUTS)?.into()),
-        ["decode-check", inputs] => Ok(decode_check::check(number(inputs, "a number of inputs")?)?.into()),
-        ["sheet-check"] => Ok(sheet_check::check(SHEETS)?.into()),
-        ["sheet-check", sheets] => Ok(sheet_check::check(number(sheets, "a number of sheets")?)?.into()),
-        ["improve-check"] => Ok(improve_check::check(LIBRARY_INPUTS)?.into()),
-        ["improve-check", inputs] => Ok(improve_check::check(number(inputs, "a number of inputs")?)?.into()),
-        ["time-bench"] => Ok(time_bench::bench()?.into()),
-        ["time-bench", "--only", side, plan, times] => {
-            let times = number(times, "a number of timings")?;
-            Ok(time_bench::only(side_of(side)?, plan, times as usize)?.into())
+        ["program-check", rest @ ..] if names_program(rest) => with_program(&arguments[1..], RUNS, program::check),
+        ["differential", rest @ ..] if names_program(rest) => with_program(&arguments[1..], ALL, differential::check),
+        ["speed", "--only", side, work, plan, times] => {
+            let times = number(times, "how often")?;
+            Ok(speed::only(side_of(side)?, work, plan, times as usize)?.into())
         }
-        ["decode-bench"] => Ok(call_bench::bench(Work::Decode)?.into()),
-        ["decode-bench", "--only", side, plan, times] => {
-            let times = number(times, "a number of calls")?;
-            Ok(call_bench::only(Work::Decode, side_of(side)?, plan, times as usize)?.into())
-        }
-        ["improve-bench"] => Ok(call_bench::bench(Work::Improve)?.into()),
-        ["improve-bench", "--only", side, plan, times] => {
-            let times = number(times, "a number of calls")?;
-            Ok(call_bench::only(Work::Improve, side_of(side)?, plan, times as usize)?.into())
-        }
+        ["speed", works @ ..] => Ok(speed::bench(works)?.into()),
         ["store"] => Ok(store::store(store::FOLDER.as_ref())?.into()),
         ["store", _] => Ok(store::store(file(1).as_ref())?.into()),
         ["answers-check"] => Ok(store::check(store::FOLDER.as_ref())?.into()),
@@ -156,6 +149,28 @@ fn dispatch(arguments: &[OsString]) -> Result<Said, String> {
             )),
         },
     }
+}
+
+/// A check of so many, or of the usual number.
+fn counted(rest: &[&str], usual: u64, check: impl Fn(u64) -> Result<Report, String>) -> Result<Said, String> {
+    let inputs = rest.first().map_or(Ok(usual), |word| number(word, "how many"))?;
+    check(inputs).map(Said::from)
+}
+
+/// Whether a program stands behind the number, if there is one.
+fn names_program(rest: &[&str]) -> bool {
+    rest.len() > usize::from(rest.first().is_some_and(|word| is_number(word)))
+}
+
+/// The same for a check of a program.
+fn with_program(
+    rest: &[OsString],
+    usual: u64,
+    check: impl Fn(&[OsString], u64) -> Result<Report, String>,
+) -> Result<Said, String> {
+    let first = rest.first().and_then(|word| word.to_str()).filter(|word| is_number(word));
+    let inputs = first.map_or(Ok(usual), |word| number(word, "how many"))?;
+    check(&rest[usize::from(first.is_some())..], inputs).map(Said::from)
 }
 
 fn name_in(usage: &str) -> &str {

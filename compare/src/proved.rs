@@ -1,110 +1,9 @@
-//! The proved library's calls, for a package that was built with it (`LAVKKESTO_LIB`): slices in, an answer out. A slice
-//! crosses as its pointer and its length. `Calls` is what the checks ask of it, so that their own tests can put an
-//! imitation in its place.
+//! The proved library's calls, as the checks make them, through the wrapper that programs in Rust have (`lavkkesto`).
+//! `Calls` is what the checks ask of it, so that their own tests can put an imitation in its place.
+
+pub use lavkkesto::{Answer, Checked, Ended, CELLS, MACHINES, PLACES, STRETCH};
 
 use crate::published::Decoder;
-use crate::read::Refused;
-
-/// The cells of sixteen lines, a stretch of 128 for each machine; no fewer may be lent.
-pub const CELLS: usize = MACHINES * STRETCH;
-pub const MACHINES: usize = 16;
-pub const STRETCH: usize = 128;
-
-/// The fewest places that a result buffer may have.
-pub const PLACES: usize = 128;
-
-/// Each call is declared once. Where the archive has it (build.rs then sets a `cfg` of its name), it is the archive's;
-/// else it is never called.
-macro_rules! calls {
-    ($(fn $name:ident($($argument:ident: $type:ty),* $(,)?) $(-> $answer:ty)?;)*) => {
-        extern "C" {
-            $(
-                #[cfg($name)]
-                fn $name($($argument: $type),*) $(-> $answer)?;
-            )*
-        }
-        $(
-            #[cfg(not($name))]
-            #[allow(unused_variables, clippy::too_many_arguments)]
-            unsafe fn $name($($argument: $type),*) $(-> $answer)? {
-                unreachable!("no Library is made without this call")
-            }
-        )*
-        /// The calls that the archive lacks, or all of them without an archive.
-        fn lacking() -> Vec<&'static str> {
-            let linked = [$((stringify!($name), cfg!($name))),*];
-            linked.into_iter().filter(|(_, linked)| !linked).map(|(name, _)| name).collect()
-        }
-    };
-}
-
-calls! {
-    fn lavkkesto_time(
-        s: *const u8, s_len: usize,
-        cells: *const usize, cells_len: usize,
-        lens: *const [usize; MACHINES],
-        activities: *mut usize, activities_len: usize,
-        machines: *mut usize, machines_len: usize,
-        starts: *mut u64, starts_len: usize,
-        ends: *mut u64, ends_len: usize,
-        setups: *mut u64, setups_len: usize,
-        code: *mut [u64; 4],
-    );
-    fn lavkkesto_time_order(
-        s: *const u8, s_len: usize,
-        activities: *mut usize, activities_len: usize,
-        machines: *mut usize, machines_len: usize,
-        starts: *mut u64, starts_len: usize,
-        ends: *mut u64, ends_len: usize,
-        setups: *mut u64, setups_len: usize,
-        code: *mut [u64; 4],
-    );
-    fn lavkkesto_time_again(
-        s: *const u8, s_len: usize,
-        cells: *const usize, cells_len: usize,
-        lens: *const [usize; MACHINES],
-        times: usize,
-    ) -> u64;
-    fn lavkkesto_in_order(
-        s: *const u8, s_len: usize,
-        activities: *mut usize, activities_len: usize,
-        machines: *mut usize, machines_len: usize,
-        starts: *mut u64, starts_len: usize,
-        ends: *mut u64, ends_len: usize,
-        setups: *mut u64, setups_len: usize,
-        code: *mut [u64; 4],
-    );
-    fn lavkkesto_active(
-        s: *const u8, s_len: usize,
-        activities: *mut usize, activities_len: usize,
-        machines: *mut usize, machines_len: usize,
-        starts: *mut u64, starts_len: usize,
-        ends: *mut u64, ends_len: usize,
-        setups: *mut u64, setups_len: usize,
-        code: *mut [u64; 4],
-    );
-    fn lavkkesto_decode(
-        s: *const u8, s_len: usize,
-        activities: *mut usize, activities_len: usize,
-        machines: *mut usize, machines_len: usize,
-        starts: *mut u64, starts_len: usize,
-        ends: *mut u64, ends_len: usize,
-        setups: *mut u64, setups_len: usize,
-        code: *mut [u64; 4],
-    );
-    fn lavkkesto_check(
-        s: *const u8, s_len: usize,
-        rows: *const i64, rows_len: usize,
-        code: *mut [u64; 3],
-    );
-    fn lavkkesto_improve(
-        s: *const u8, s_len: usize,
-        cells: *mut usize, cells_len: usize,
-        tasks: *mut usize, tasks_len: usize,
-        machines: *mut usize, machines_len: usize,
-        code: *mut [u64; 3],
-    );
-}
 
 /// Lines as the calls take them: machine m's line is the first `lens[m]` cells from `128 * m` on.
 #[derive(Clone, Debug, PartialEq, Eq)]
@@ -123,96 +22,18 @@ pub struct Buffers {
     pub setups: Vec<u64>,
 }
 
+impl Buffers {
+    fn lent(&mut self) -> lavkkesto::Rows<'_> {
+        let Buffers { activities, machines, starts, ends, setups } = self;
+        lavkkesto::Rows { activities, machines, starts, ends, setups }
+    }
+}
+
 /// The two buffers that an improved order and its assignment are written to.
 #[derive(Clone, Debug, PartialEq, Eq)]
 pub struct Genes {
     pub tasks: Vec<usize>,
     pub machines: Vec<usize>,
-}
-
-/// Of timing and the decoders: how many rows were written and the bits of their fitness, or a refusal.
-#[derive(Clone, Copy, Debug, PartialEq, Eq)]
-pub enum Answer {
-    Rows {
-        count: usize,
-        fitness: u64,
-    },
-    Refused(Refused),
-    /// Four numbers that are neither.
-    Unknown([u64; 4]),
-}
-
-impl Answer {
-    /// Number, place, 0, 0 for a refusal; else 0, 0, rows, fitness bits.
-    fn of(told: [u64; 4]) -> Answer {
-        match (told, refused(told[0], told[1]), usize::try_from(told[2])) {
-            ([0, 0, _, fitness], _, Ok(count)) => Answer::Rows { count, fitness },
-            ([_, _, 0, 0], Some(refused), _) => Answer::Refused(refused),
-            _ => Answer::Unknown(told),
-        }
-    }
-}
-
-/// Of the sheet check.
-#[derive(Clone, Copy, Debug, PartialEq, Eq)]
-pub enum Checked {
-    Accepted,
-    /// Rule 1 to 9, and the row from 0 on.
-    Bad {
-        rule: u64,
-        row: usize,
-    },
-    /// Rule 10.
-    Missing {
-        activity: usize,
-    },
-    Refused(Refused),
-    /// Three numbers that are none of these.
-    Unknown([u64; 3]),
-}
-
-impl Checked {
-    /// Number, 0, place for a refusal; else 0, rule (0 for none), row or activity.
-    fn of(told: [u64; 3]) -> Checked {
-        match (told, refused(told[0], told[2]), usize::try_from(told[2])) {
-            ([0, 0, 0], ..) => Checked::Accepted,
-            ([0, rule @ 1..=9, _], _, Ok(row)) => Checked::Bad { rule, row },
-            ([0, 10, _], _, Ok(activity)) => Checked::Missing { activity },
-            ([_, 0, _], Some(refused), _) => Checked::Refused(refused),
-            _ => Checked::Unknown(told),
-        }
-    }
-}
-
-/// Of Improve: an outcome, with the bits of the best line fitness for 13 and 14; or a refusal.
-#[derive(Clone, Copy, Debug, PartialEq, Eq)]
-pub enum Ended {
-    Outcome {
-        number: u64,
-        fitness: Option<u64>,
-    },
-    Refused(Refused),
-    /// Three numbers that are neither.
-    Unknown([u64; 3]),
-}
-
-impl Ended {
-    /// Number, place, fitness bits; 0 for what there is not.
-    fn of(told: [u64; 3]) -> Ended {
-        match (told, refused(told[0], told[1])) {
-            ([number @ 10..=12, 0, 0], _) => Ended::Outcome { number, fitness: None },
-            ([number @ 13..=14, 0, fitness], _) => Ended::Outcome { number, fitness: Some(fitness) },
-            ([1..=6, _, 0], Some(refused)) => Ended::Refused(refused),
-            _ => Ended::Unknown(told),
-        }
-    }
-}
-
-fn refused(number: u64, place: u64) -> Option<Refused> {
-    match (u32::try_from(number), usize::try_from(place)) {
-        (Ok(number @ 1..), Ok(place)) => Some(Refused { number, place }),
-        _ => None,
-    }
 }
 
 /// The library's calls.
@@ -242,10 +63,11 @@ pub struct Library(());
 impl Library {
     /// The library for a tool that makes these calls.
     pub fn linked(calls: &[&str]) -> Result<Library, String> {
-        let lacking = lacking();
-        match calls.iter().find(|call| lacking.contains(call)) {
+        match calls.iter().find(|call| lavkkesto::lacking().any(|lacking| lacking == **call)) {
             None => Ok(Library(())),
-            Some(call) if cfg!(proved) => Err(format!("the archive that LAVKKESTO_LIB names has no {call}")),
+            Some(call) if option_env!("LAVKKESTO_LIB").is_some() => {
+                Err(format!("the archive that LAVKKESTO_LIB names has no {call}"))
+            }
             Some(_) => Err("built without the proved library: LAVKKESTO_LIB names the archive that \
                             `rt staticlib library` writes, target/staticlib/liblibrary.a"
                 .to_string()),
@@ -253,81 +75,32 @@ impl Library {
     }
 }
 
-/// A call with the input, other arguments and the five result buffers.
-macro_rules! answer_of {
-    ($call:ident($input:ident $(, $argument:expr)*) into $rows:ident) => {{
-        // Nothing that the library could read is left in the answer.
-        let mut code = [u64::MAX; 4];
-        // SAFETY: every pointer comes with the length of the slice it is from, and all are borrowed for the call.
-        unsafe {
-            $call(
-                $input.as_ptr(),
-                $input.len(),
-                $($argument,)*
-                $rows.activities.as_mut_ptr(),
-                $rows.activities.len(),
-                $rows.machines.as_mut_ptr(),
-                $rows.machines.len(),
-                $rows.starts.as_mut_ptr(),
-                $rows.starts.len(),
-                $rows.ends.as_mut_ptr(),
-                $rows.ends.len(),
-                $rows.setups.as_mut_ptr(),
-                $rows.setups.len(),
-                &mut code,
-            );
-        }
-        Answer::of(code)
-    }};
-}
-
 impl Calls for Library {
     fn time(&self, input: &[u8], lines: &Given, rows: &mut Buffers) -> Answer {
-        answer_of!(lavkkesto_time(input, lines.cells.as_ptr(), lines.cells.len(), &lines.lens) into rows)
+        lavkkesto::time(input, &lines.cells, &lines.lens, rows.lent())
     }
 
     fn time_order(&self, input: &[u8], rows: &mut Buffers) -> Answer {
-        answer_of!(lavkkesto_time_order(input) into rows)
+        lavkkesto::time_order(input, rows.lent())
     }
 
     fn time_again(&self, input: &[u8], lines: &Given, times: usize) -> u64 {
-        let Given { cells, lens } = lines;
-        // SAFETY: as above; nothing is written.
-        unsafe { lavkkesto_time_again(input.as_ptr(), input.len(), cells.as_ptr(), cells.len(), lens, times) }
+        lavkkesto::time_again(input, &lines.cells, &lines.lens, times)
     }
 
     fn decode(&self, decoder: Decoder, input: &[u8], rows: &mut Buffers) -> Answer {
         match decoder {
-            Decoder::InOrder => answer_of!(lavkkesto_in_order(input) into rows),
-            Decoder::Active => answer_of!(lavkkesto_active(input) into rows),
-            Decoder::Better => answer_of!(lavkkesto_decode(input) into rows),
+            Decoder::InOrder => lavkkesto::in_order(input, rows.lent()),
+            Decoder::Active => lavkkesto::active(input, rows.lent()),
+            Decoder::Better => lavkkesto::decode(input, rows.lent()),
         }
     }
 
     fn check(&self, input: &[u8], rows: &[i64]) -> Checked {
-        let mut code = [u64::MAX; 3];
-        // SAFETY: as above.
-        unsafe { lavkkesto_check(input.as_ptr(), input.len(), rows.as_ptr(), rows.len(), &mut code) };
-        Checked::of(code)
+        lavkkesto::check(input, rows)
     }
 
     fn improve(&self, input: &[u8], cells: &mut [usize], genes: &mut Genes) -> Ended {
-        let Genes { tasks, machines } = genes;
-        let mut code = [u64::MAX; 3];
-        // SAFETY: as above.
-        unsafe {
-            lavkkesto_improve(
-                input.as_ptr(),
-                input.len(),
-                cells.as_mut_ptr(),
-                cells.len(),
-                tasks.as_mut_ptr(),
-                tasks.len(),
-                machines.as_mut_ptr(),
-                machines.len(),
-                &mut code,
-            );
-        }
-        Ended::of(code)
+        lavkkesto::improve(input, cells, &mut genes.tasks, &mut genes.machines)
     }
 }

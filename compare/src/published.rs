@@ -2,9 +2,9 @@
 //! machine 3 "m3", category 3 "c3".
 
 use std::collections::{BTreeMap, HashMap};
-use std::time::{Duration, Instant};
 
 use crate::answers::{Improved, Made, Sheet, Step};
+use crate::bench::clock;
 use crate::ga::chromosome::ScheduleChromosome;
 use crate::ga::problem::SchedulingGaProblem;
 use crate::models::{
@@ -105,13 +105,13 @@ impl Published {
 
     /// Runs the text's `improve` so often, each time on a copy of the genes; how long it took, copying apart. Two copies
     /// are made at least, so that they count alike in a run with one time and with two.
-    pub fn improve_again(&self, times: usize) -> Duration {
+    pub fn improve_again(&self, times: usize) -> f64 {
         let mut copies = vec![self.genes.clone(); times.max(2)];
-        let begun = Instant::now();
+        let begun = clock();
         for genes in copies.iter_mut().take(times) {
             self.problem.improve_genes(std::hint::black_box(genes));
         }
-        begun.elapsed()
+        clock() - begun
     }
 
     /// `improve` once more, step by step through the text's own functions, with the moves made.

@@ -1,23 +1,13 @@
 //! The stored form, read as document 01's words say it: bytes become a plan or a refusal with its number and place.
 //! Written from the paper alone, so that it can stand beside the proved reader as a second opinion.
 
+/// A number of the paper's table and its place: a byte offset, or 0 for number 4.
+pub use lavkkesto::Refused;
+
 use crate::plan::{Plan, Setup, Task, Times};
 
 /// Durations, setups and transports reach this far.
 const LONGEST: u32 = 2_147_483_647;
-
-/// A number of the paper's table and its place: a byte offset, or 0 for number 4.
-#[derive(Clone, Copy, Debug, PartialEq, Eq)]
-pub struct Refused {
-    pub number: u32,
-    pub place: usize,
-}
-
-impl std::fmt::Display for Refused {
-    fn fmt(&self, f: &mut std::fmt::Formatter<'_>) -> std::fmt::Result {
-        write!(f, "refused {} {}", self.number, self.place)
-    }
-}
 
 fn refused<T>(number: u32, place: usize) -> Result<T, Refused> {
     Err(Refused { number, place })

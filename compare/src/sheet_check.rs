@@ -3,27 +3,32 @@
 
 use crate::answers::Sheet;
 use crate::check::Report;
-use crate::damage;
 use crate::decoding;
-use crate::generate::{self, Class, Rng};
+use crate::driver::{Check, Run};
+use crate::generate::{self, Rng};
 use crate::plan::Plan;
-use crate::proved::{Calls, Checked, Library};
-use crate::published::{beyond_the_rust, Decoder};
+use crate::proved::Checked;
+use crate::published::Decoder;
 use crate::read::read;
 use crate::sheet::{self, LATEST};
-use crate::tally::{in_turns, Difference, Table, Tally};
+use crate::tally::{in_turns, Table};
 use crate::timing;
 
-/// The call that it makes.
-const CALLS: [&str; 1] = ["lavkkesto_check"];
-
-/// Accepted; broken rules 1 to 10; refusals 1 to 5.
-const TABLE: Table = Table {
-    name: "sheet-check",
-    columns: &[
-        "accepted", "rule 1", "rule 2", "rule 3", "rule 4", "rule 5", "rule 6", "rule 7", "rule 8", "rule 9",
-        "rule 10", "1", "2", "3", "4", "5",
-    ],
+pub const CHECK: Check = Check {
+    // Accepted; broken rules 1 to 10; refusals 1 to 5.
+    table: Table {
+        name: "sheet-check",
+        columns: &[
+            "accepted", "rule 1", "rule 2", "rule 3", "rule 4", "rule 5", "rule 6", "rule 7", "rule 8", "rule 9",
+            "rule 10", "1", "2", "3", "4", "5",
+        ],
+    },
+    calls: &["lavkkesto_check"],
+    counted: "sheets",
+    salt: 0x7368_6565_745f_6368,
+    turn: in_turns,
+    on_plan,
+    on_extremes: |_| {},
 };
 
 /// So many sheets for one plan.
@@ -32,81 +37,58 @@ const SHEETS: u64 = 20;
 /// Numbers of a row: activity, machine, start, end.
 const NUMBERS: usize = 4;
 
-/// Runs so many sheets, or a few more; plans of all classes in turns. An error is about the library or the folder of
-/// differences.
+/// Runs so many sheets, or a few more.
 pub fn check(sheets: u64) -> Result<Report, String> {
-    TABLE.report(tallies(&Library::linked(&CALLS)?, sheets), "sheets")
+    CHECK.run(sheets.div_ceil(SHEETS))
 }
 
-/// The same with any calls.
-fn tallies(calls: &impl Calls, sheets: u64) -> Vec<(&'static str, Tally)> {
-    TABLE.tallies(sheets.div_ceil(SHEETS), in_turns, |class, seed| of_input(calls, class, seed))
-}
-
-/// Sheets for a plan of a class; one of them with some faults in the plan.
-fn of_input(calls: &impl Calls, class: Class, seed: u64) -> Tally {
-    let plan = generate::plan(seed, class);
-    let mut rng = Rng::new(seed ^ (class as u64) << 40 ^ 0x7368_6565_745f_6368);
-    let name = format!("{} {seed}", class.name());
-    let mut run = Run { calls, name, tally: Tally::new(TABLE.columns.len()) };
-    run.tally.inputs = 1;
-    run.tally.beyond = u64::from(!beyond_the_rust(&plan).is_empty());
+/// Sheets for a plan; one of them with some faults in the plan.
+fn on_plan(run: &mut Run, plan: &Plan) {
     let bytes = plan.to_bytes();
-    let whole = whole_sheets(&plan, &mut rng);
+    let whole = whole_sheets(plan, &mut run.rng);
     for (kind, rows) in &whole {
-        let due = run.hold(kind, &plan, &bytes, rows);
+        let due = hold(run, kind, plan, &bytes, rows);
         // A sheet of the decoders or of timing breaks no rule but the last.
         if matches!(due, Checked::Bad { .. }) {
-            run.tell(format!("{kind}: due {due:?}"), &bytes, rows);
+            tell(run, format!("{kind}: due {due:?}"), &bytes, rows);
         }
     }
     for _ in whole.len() as u64..SHEETS - 1 {
-        let (kind, rows) = other_sheet(&plan, &whole, &mut rng);
-        run.hold(kind, &plan, &bytes, &rows);
+        let (kind, rows) = other_sheet(plan, &whole, &mut run.rng);
+        hold(run, kind, plan, &bytes, &rows);
     }
-    let damaged = damage::damage(&bytes, seed ^ (class as u64) << 40);
-    run.name += ", damaged";
-    let (kind, rows) = other_sheet(&plan, &whole, &mut rng);
+    let damaged = run.damaged(plan);
+    let (kind, rows) = other_sheet(plan, &whole, &mut run.rng);
     match read(&damaged) {
-        Ok(plan) => drop(run.hold(kind, &plan, &damaged, &rows)),
-        Err(refused) => run.held(kind, &damaged, &rows, Checked::Refused(refused)),
+        Ok(plan) => drop(hold(run, kind, &plan, &damaged, &rows)),
+        Err(refused) => held(run, kind, &damaged, &rows, Checked::Refused(refused)),
     }
-    run.tally
 }
 
-struct Run<'a, C> {
-    calls: &'a C,
-    name: String,
-    tally: Tally,
+/// A sheet of an accepted plan; what is due for it.
+fn hold(run: &mut Run, kind: &str, plan: &Plan, input: &[u8], rows: &[i64]) -> Checked {
+    let due = sheet::check(plan, rows);
+    held(run, kind, input, rows, due);
+    due
 }
 
-impl<C: Calls> Run<'_, C> {
-    /// A sheet of an accepted plan; what is due for it.
-    fn hold(&mut self, kind: &str, plan: &Plan, input: &[u8], rows: &[i64]) -> Checked {
-        let due = sheet::check(plan, rows);
-        self.held(kind, input, rows, due);
-        due
+fn held(run: &mut Run, kind: &str, input: &[u8], rows: &[i64], due: Checked) {
+    run.count(match due {
+        Checked::Bad { rule, .. } => rule as usize,
+        Checked::Missing { .. } => 10,
+        Checked::Refused(refused) => 10 + refused.number as usize,
+        Checked::Accepted | Checked::Unknown(_) => 0,
+    });
+    let answer = run.calls.check(input, rows);
+    if answer != due {
+        tell(run, format!("{kind}: due {due:?}, not {answer:?}"), input, rows);
     }
+}
 
-    fn held(&mut self, kind: &str, input: &[u8], rows: &[i64], due: Checked) {
-        let column = match due {
-            Checked::Bad { rule, .. } => rule as usize,
-            Checked::Missing { .. } => 10,
-            Checked::Refused(refused) => 10 + refused.number as usize,
-            Checked::Accepted | Checked::Unknown(_) => 0,
-        };
-        self.tally.counts[column] += 1;
-        let answer = self.calls.check(input, rows);
-        if answer != due {
-            self.tell(format!("{kind}: due {due:?}, not {answer:?}"), input, rows);
-        }
-    }
-
-    fn tell(&mut self, what: String, input: &[u8], rows: &[i64]) {
-        let row = |row: &[i64]| row.iter().map(i64::to_string).collect::<Vec<_>>().join(" ") + "\n";
-        let files = vec![("input", input.to_vec()), ("rows", rows.chunks(NUMBERS).map(row).collect::<String>().into())];
-        self.tally.differences.push(Difference { what: format!("{}: {what}", self.name), files });
-    }
+fn tell(run: &mut Run, what: String, input: &[u8], rows: &[i64]) {
+    let row = |row: &[i64]| row.iter().map(i64::to_string).collect::<Vec<_>>().join(" ") + "\n";
+    let rows: String = rows.chunks(NUMBERS).map(row).collect();
+    run.tell(what, vec![("input", input.to_vec()), ("rows", rows.into())]);
 }
 
 // -------------------------------------------------------------------------------------------------------- sheets
@@ -283,13 +265,13 @@ mod tests {
     fn faults_are_found() {
         let rules: Vec<Fault> = (1..=10).map(Fault::NoRule).collect();
         let seen = [Fault::NoSetups, Fault::NoPredecessors, Fault::RowsFromOne, Fault::PlaceOff, Fault::NoStray];
-        finds(|calls| tallies(calls, 4_000), &[&rules[..], &seen].concat());
+        finds(|calls| CHECK.generated(calls, 4_000 / SHEETS), &[&rules[..], &seen].concat());
     }
 
     #[test]
     fn every_verdict_is_due_often() {
-        let tallies = tallies(&crate::imitation::Imitation(Fault::Nothing), 10_000);
-        for (k, column) in TABLE.columns.iter().enumerate() {
+        let tallies = CHECK.generated(&crate::imitation::Imitation(Fault::Nothing), 10_000 / SHEETS);
+        for (k, column) in CHECK.table.columns.iter().enumerate() {
             let count: u64 = tallies.iter().map(|(_, tally)| tally.counts[k]).sum();
             assert!(count > 20 || k > 10 && count > 2, "{column}: {count}");
         }

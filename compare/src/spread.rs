@@ -1,5 +1,6 @@
 //! Work on many inputs, shared by some threads; what comes of it does not depend on them.
 
+use std::ops::Range;
 use std::panic::{catch_unwind, AssertUnwindSafe};
 use std::sync::atomic::{AtomicU64, Ordering};
 use std::sync::Mutex;
@@ -8,7 +9,12 @@ const THREADS: usize = 2;
 
 /// What came of each input, by its number; nothing of a crash. Progress goes to standard error under this name.
 pub fn spread<T: Send>(name: &str, inputs: u64, of: impl Fn(u64) -> T + Sync) -> Vec<Option<T>> {
-    let next = AtomicU64::new(0);
+    part(name, 0..inputs, inputs, of)
+}
+
+/// The same for a part of the inputs.
+pub fn part<T: Send>(name: &str, own: Range<u64>, inputs: u64, of: impl Fn(u64) -> T + Sync) -> Vec<Option<T>> {
+    let next = AtomicU64::new(own.start);
     let done = Mutex::new(Vec::new());
     // A crash is told as a difference, once, and not by every thread in its own words.
     let hook = std::panic::take_hook();
@@ -17,7 +23,7 @@ pub fn spread<T: Send>(name: &str, inputs: u64, of: impl Fn(u64) -> T + Sync) ->
         for _ in 0..THREADS {
             scope.spawn(|| loop {
                 let k = next.fetch_add(1, Ordering::Relaxed);
-                if k >= inputs {
+                if k >= own.end {
                     break;
                 }
                 if k > 0 && k % (inputs / 20).max(500) == 0 {
@@ -36,8 +42,8 @@ pub fn spread<T: Send>(name: &str, inputs: u64, of: impl Fn(u64) -> T + Sync) ->
     done.into_iter().map(|(_, come)| come).collect()
 }
 
-/// Whether anybody reads it does not matter.
-fn progress(line: &str) {
+/// A line to standard error; whether anybody reads it does not matter.
+pub fn progress(line: &str) {
     use std::io::Write;
     let _ = writeln!(std::io::stderr(), "{line}");
 }

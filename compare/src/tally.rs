@@ -6,13 +6,16 @@ use std::path::Path;
 
 use crate::check::Report;
 use crate::generate::{self, Class};
-use crate::spread::spread;
+use crate::spread::part;
 
 /// Where the inputs of differences are saved.
 const FOLDER: &str = concat!(env!("CARGO_MANIFEST_DIR"), "/target/differences");
 
 /// So many are told and saved; the others are counted.
 const TOLD: usize = 10;
+
+/// So many tallies are held at a time, however many inputs there are.
+const HELD: usize = 10_000;
 
 /// What came of some inputs.
 pub struct Tally {
@@ -35,7 +38,7 @@ impl Tally {
         Tally { inputs: 0, beyond: 0, counts: vec![0; columns], differences: Vec::new() }
     }
 
-    fn add(&mut self, other: Tally) {
+    pub fn add(&mut self, other: Tally) {
         self.inputs += other.inputs;
         self.beyond += other.beyond;
         self.counts.iter_mut().zip(other.counts).for_each(|(to, from)| *to += from);
@@ -62,23 +65,23 @@ impl Table<'_> {
         turn: impl Fn(u64) -> (Class, u64) + Sync,
         of: impl Fn(Class, u64) -> Tally + Sync,
     ) -> Vec<(&'static str, Tally)> {
-        let tallies = spread(self.name, inputs, |k| {
-            let (class, seed) = turn(k);
-            of(class, seed)
-        });
         let mut by_class: BTreeMap<usize, Tally> = BTreeMap::new();
-        for (k, tally) in tallies.into_iter().enumerate() {
-            let (class, seed) = turn(k as u64);
-            let of_class = by_class.entry(class as usize).or_insert_with(|| Tally::new(self.columns.len()));
-            of_class.add(tally.unwrap_or_else(|| self.crashed(class, seed)));
+        for begin in (0..inputs).step_by(HELD) {
+            let tallies = part(self.name, begin..inputs.min(begin + HELD as u64), inputs, |k| {
+                let (class, seed) = turn(k);
+                of(class, seed)
+            });
+            for (k, tally) in (begin..).zip(tallies) {
+                let (class, seed) = turn(k);
+                let of_class = by_class.entry(class as usize).or_insert_with(|| Tally::new(self.columns.len()));
+                of_class.add(tally.unwrap_or_else(|| self.crashed(class, seed)));
+            }
         }
         by_class.into_iter().map(|(class, tally)| (Class::ALL[class].name(), tally)).collect()
     }
 
     /// A row for each tally; then the differences; then a line with the sum of the counts, called `counted`.
     pub fn report(&self, tallies: Vec<(&str, Tally)>, counted: &str) -> Result<Report, String> {
-        // What an earlier run saved would be taken for this one's.
-        let _ = std::fs::remove_dir_all(FOLDER);
         let heads: String = self.columns.iter().map(|head| format!("{head:>9}")).collect();
         let mut text = format!("{:<18}{:>8}{:>9}{heads}\n", "class", "inputs", "beyond");
         let mut all = Tally::new(self.columns.len());
@@ -87,9 +90,7 @@ impl Table<'_> {
             all.add(tally);
         }
         text += &all.row("all");
-        for difference in all.differences.iter().take(TOLD).enumerate() {
-            let _ = writeln!(text, "difference: {}", saved(difference)?);
-        }
+        text += &told(&all.differences)?;
         let (sum, differences) = (all.counts.iter().sum::<u64>(), all.differences.len());
         let _ = writeln!(text, "{}: {} inputs, {sum} {counted}, {differences} differences", self.name, all.inputs);
         Ok(Report { text, differences })
@@ -106,6 +107,14 @@ impl Table<'_> {
 pub fn in_turns(k: u64) -> (Class, u64) {
     let classes = Class::ALL.len() as u64;
     (Class::ALL[(k % classes) as usize], k / classes)
+}
+
+/// A line for each of the first differences; what shows them is saved.
+pub fn told(differences: &[Difference]) -> Result<String, String> {
+    // What an earlier run saved would be taken for this one's.
+    let _ = std::fs::remove_dir_all(FOLDER);
+    let lines = differences.iter().take(TOLD).enumerate().map(|each| Ok(format!("difference: {}\n", saved(each)?)));
+    lines.collect()
 }
 
 /// The difference with the names of the files that show it.

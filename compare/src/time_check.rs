@@ -2,38 +2,30 @@
 //! (`timing`), on generated plans and on damaged ones, with lines of every kind, in one process.
 
 use crate::answers::Sheet;
-use crate::check::Report;
-use crate::damage;
-use crate::generate::{self, Class, Rng};
-use crate::lent::{buffers, differing, enough, five, too_few, written, TOO_SHORT};
+use crate::driver::{Check, Run};
+use crate::generate::{self, Rng};
+use crate::lent::{amiss, buffers, enough, five, too_few, TOO_SHORT};
 use crate::lines;
 use crate::plan::Plan;
-use crate::proved::{Answer, Buffers, Calls, Given, Library, CELLS, MACHINES, PLACES, STRETCH};
-use crate::published::{beyond_the_rust, Lines, Published};
+use crate::proved::{Answer, Buffers, Given, CELLS, MACHINES, PLACES, STRETCH};
+use crate::published::{Lines, Published};
 use crate::read::{read, Refused};
-use crate::tally::{in_turns, Difference, Table, Tally};
+use crate::tally::{in_turns, Table};
 use crate::timing;
 
-/// The calls that it makes.
-const CALLS: [&str; 3] = ["lavkkesto_time", "lavkkesto_time_order", "lavkkesto_time_again"];
-
-/// Lines timed, or refused with 1 to 8.
-const TABLE: Table = Table { name: "time-check", columns: &["timed", "1", "2", "3", "4", "5", "6", "7", "8"] };
+pub const CHECK: Check = Check {
+    // Lines timed, or refused with 1 to 8.
+    table: Table { name: "time-check", columns: &["timed", "1", "2", "3", "4", "5", "6", "7", "8"] },
+    calls: &["lavkkesto_time", "lavkkesto_time_order", "lavkkesto_time_again"],
+    counted: "calls",
+    salt: 0x7469_6d65_5f63_6865,
+    turn: in_turns,
+    on_plan,
+    on_extremes,
+};
 
 /// The sheet that a call must write, or its refusal.
 type Due = Result<Sheet, Refused>;
-
-/// Runs `inputs` generated inputs, all classes in turns. An error is about the library or the folder of differences.
-pub fn check(inputs: u64) -> Result<Report, String> {
-    TABLE.report(tallies(&Library::linked(&CALLS)?, inputs), "calls")
-}
-
-/// The same with any calls.
-fn tallies(calls: &impl Calls, inputs: u64) -> Vec<(&'static str, Tally)> {
-    let mut tallies = TABLE.tallies(inputs, in_turns, |class, seed| of_input(calls, class, seed));
-    tallies.push(("extremes", of_extremes(calls)));
-    tallies
-}
 
 /// Lines as a file holds them; none where a cell is no word or a line leaves its stretch.
 fn as_words(given: &Given) -> Option<Vec<u8>> {
@@ -45,210 +37,178 @@ fn as_words(given: &Given) -> Option<Vec<u8>> {
     Some(lines::to_bytes(&lines))
 }
 
-// -------------------------------------------------------------------------------------------------- one input
-
-/// A plan of a class, and the same with some faults.
-fn of_input(calls: &impl Calls, class: Class, seed: u64) -> Tally {
-    let plan = generate::plan(seed, class);
-    let mut run = Run::new(calls, format!("{} {seed}", class.name()), seed ^ (class as u64) << 40);
-    run.tally.inputs = 1;
-    run.tally.beyond = u64::from(!beyond_the_rust(&plan).is_empty());
-    let lines = run.accepted(&plan);
-    let bytes = damage::damage(&plan.to_bytes(), seed ^ (class as u64) << 40);
-    run.name += ", damaged";
+/// The plan, and the same with some faults.
+fn on_plan(run: &mut Run, plan: &Plan) {
+    let lines = accepted(run, plan);
+    let bytes = run.damaged(plan);
     match read(&bytes) {
-        Ok(plan) => drop(run.accepted(&plan)),
-        Err(refused) => run.refused(&bytes, &lines, refused),
+        Ok(plan) => drop(accepted(run, &plan)),
+        Err(refused) => of_refused(run, &bytes, &lines, refused),
     }
-    run.tally
 }
 
 /// The longest input and the latest end.
-fn of_extremes(calls: &impl Calls) -> Tally {
-    let mut run = Run::new(calls, String::new(), 0);
+fn on_extremes(run: &mut Run) {
     for (name, plan) in generate::extremes() {
-        run.name = name.to_string();
-        run.tally.inputs += 1;
-        run.accepted(&plan);
+        run.begin(name);
+        accepted(run, &plan);
     }
-    run.tally
 }
 
-/// Calls of the library, each held against what is due.
-struct Run<'a, C> {
-    calls: &'a C,
-    name: String,
-    rng: Rng,
-    tally: Tally,
+/// Every kind of lines for an accepted plan; returns lines that fit it.
+fn accepted(run: &mut Run, plan: &Plan) -> Lines {
+    let bytes = plan.to_bytes();
+    let mut rust = Published::new(plan);
+    let of_order = timing::lines_of_order(plan);
+    if of_order.as_ref().ok() != rust.lines().as_ref() {
+        tell(run, "the Rust and the paper's words give other lines of the order".to_string(), &bytes, None);
+    }
+    let order_due = of_order.clone().and_then(|lines| due(run, plan, &rust, &lines));
+    in_order(run, &bytes, &order_due);
+    let fitting = dealt(generate::sequence(plan, &mut run.rng), plan, &mut run.rng);
+    let base = of_order.clone().unwrap_or_else(|_| fitting.clone());
+    let mut shuffled: Vec<usize> = (0..plan.activities.len()).collect();
+    run.rng.shuffle(&mut shuffled);
+    let random = dealt(shuffled, plan, &mut run.rng);
+    let kinds = [
+        ("the order's lines", base.clone()),
+        ("dealt lines", fitting.clone()),
+        ("random lines", random),
+        ("lines a little changed", changed(base.clone(), &mut run.rng)),
+        ("dealt lines a little changed", changed(fitting.clone(), &mut run.rng)),
+    ];
+    for (kind, lines) in kinds {
+        rust = rust.with_lines(&lines);
+        let due = due(run, plan, &rust, &lines);
+        if kind == "dealt lines" && due.is_err() {
+            tell(run, "lines that fit the plan are due a refusal".to_string(), &bytes, None);
+        }
+        let given = given(&lines, &mut run.rng);
+        if timing::lines_given(plan, &given).as_ref() != Ok(&lines) {
+            tell(run, format!("{kind} are not read as they are given"), &bytes, Some(&given));
+        }
+        on_lines(run, kind, &bytes, &given, &due);
+    }
+    for _ in 0..2 {
+        damaged_lines(run, plan, &bytes, &base);
+    }
+    too_short(run, &bytes, &base);
+    fitting
 }
 
-impl<'a, C: Calls> Run<'a, C> {
-    fn new(calls: &'a C, name: String, seed: u64) -> Run<'a, C> {
-        Run { calls, name, rng: Rng::new(seed ^ 0x7469_6d65_5f63_6865), tally: Tally::new(TABLE.columns.len()) }
+/// What the Rust and the paper's words both say of lines.
+fn due(run: &mut Run, plan: &Plan, rust: &Published, lines: &Lines) -> Due {
+    let due = timing::time(plan, lines);
+    let by_rust = rust.time(lines).ok_or(Refused { number: 8, place: 0 });
+    if due != by_rust {
+        let given = given(lines, &mut run.rng);
+        tell(run, "the Rust and the paper's words time otherwise".to_string(), &plan.to_bytes(), Some(&given));
     }
+    by_rust
+}
 
-    /// Every kind of lines for an accepted plan; returns lines that fit it.
-    fn accepted(&mut self, plan: &Plan) -> Lines {
-        let bytes = plan.to_bytes();
-        let mut rust = Published::new(plan);
-        let of_order = timing::lines_of_order(plan);
-        if of_order.as_ref().ok() != rust.lines().as_ref() {
-            self.tell("the Rust and the paper's words give other lines of the order".to_string(), &bytes, None);
-        }
-        let due = of_order.clone().and_then(|lines| self.due(plan, &rust, &lines));
-        self.in_order(&bytes, &due);
-        let dealt = dealt(generate::sequence(plan, &mut self.rng), plan, &mut self.rng);
-        let base = of_order.clone().unwrap_or_else(|_| dealt.clone());
-        let mut shuffled: Vec<usize> = (0..plan.activities.len()).collect();
-        self.rng.shuffle(&mut shuffled);
-        let random = self::dealt(shuffled, plan, &mut self.rng);
-        let kinds = [
-            ("the order's lines", base.clone()),
-            ("dealt lines", dealt.clone()),
-            ("random lines", random),
-            ("lines a little changed", changed(base.clone(), &mut self.rng)),
-            ("dealt lines a little changed", changed(dealt.clone(), &mut self.rng)),
-        ];
-        for (kind, lines) in kinds {
-            rust = rust.with_lines(&lines);
-            let due = self.due(plan, &rust, &lines);
-            if kind == "dealt lines" && due.is_err() {
-                self.tell("lines that fit the plan are due a refusal".to_string(), &bytes, None);
-            }
-            let given = given(&lines, &mut self.rng);
-            if timing::lines_given(plan, &given).as_ref() != Ok(&lines) {
-                self.tell(format!("{kind} are not read as they are given"), &bytes, Some(&given));
-            }
-            self.on_lines(kind, &bytes, &given, &due);
-        }
-        for _ in 0..2 {
-            self.damaged_lines(plan, &bytes, &base);
-        }
-        self.too_short(&bytes, &base);
-        dealt
+/// Lines that break number 7 in one way.
+fn damaged_lines(run: &mut Run, plan: &Plan, bytes: &[u8], lines: &Lines) {
+    let mut given = given(lines, &mut run.rng);
+    let kind = break_lines(&mut given, plan, &mut run.rng);
+    let due = timing::lines_given(plan, &given);
+    if due != Err(Refused { number: 7, place: 0 }) {
+        tell(run, format!("{kind}: lines are not due number 7"), bytes, Some(&given));
     }
+    on_lines(run, kind, bytes, &given, &Err(Refused { number: 7, place: 0 }));
+}
 
-    /// What the Rust and the paper's words both say of lines.
-    fn due(&mut self, plan: &Plan, rust: &Published, lines: &Lines) -> Due {
-        let due = timing::time(plan, lines);
-        let by_rust = rust.time(lines).ok_or(Refused { number: 8, place: 0 });
-        if due != by_rust {
-            let given = given(lines, &mut self.rng);
-            self.tell("the Rust and the paper's words time otherwise".to_string(), &plan.to_bytes(), Some(&given));
-        }
-        by_rust
+/// An input that is refused, with any lines; number 6 still comes first.
+fn of_refused(run: &mut Run, bytes: &[u8], lines: &Lines, refused: Refused) {
+    in_order(run, bytes, &Err(refused));
+    let mut given = given(lines, &mut run.rng);
+    if run.rng.chance(50) {
+        given.lens = std::array::from_fn(|_| run.rng.below(200) as usize);
     }
+    on_lines(run, "any lines", bytes, &given, &Err(refused));
+    too_short(run, bytes, lines);
+}
 
-    /// Lines that break number 7 in one way.
-    fn damaged_lines(&mut self, plan: &Plan, bytes: &[u8], lines: &Lines) {
-        let mut given = given(lines, &mut self.rng);
-        let kind = break_lines(&mut given, plan, &mut self.rng);
-        let due = timing::lines_given(plan, &given);
-        if due != Err(Refused { number: 7, place: 0 }) {
-            self.tell(format!("{kind}: lines are not due number 7"), bytes, Some(&given));
-        }
-        self.on_lines(kind, bytes, &given, &Err(Refused { number: 7, place: 0 }));
+/// One buffer short, or the cells: number 6.
+fn too_short(run: &mut Run, bytes: &[u8], lines: &Lines) {
+    let mut given = given(lines, &mut run.rng);
+    let mut places = five(&mut run.rng);
+    let buffer = run.rng.index(6);
+    match places.get_mut(buffer) {
+        Some(places) => *places = too_few(PLACES, &mut run.rng),
+        None => given.cells.truncate(too_few(CELLS, &mut run.rng)),
     }
-
-    /// An input that is refused, with any lines; number 6 still comes first.
-    fn refused(&mut self, bytes: &[u8], lines: &Lines, refused: Refused) {
-        self.in_order(bytes, &Err(refused));
-        let mut given = given(lines, &mut self.rng);
-        if self.rng.chance(50) {
-            given.lens = std::array::from_fn(|_| self.rng.below(200) as usize);
-        }
-        self.on_lines("any lines", bytes, &given, &Err(refused));
-        self.too_short(bytes, lines);
+    on_lines_into(run, places, "something short", bytes, &given, &Err(TOO_SHORT));
+    if buffer < places.len() {
+        in_order_into(run, places, bytes, &Err(TOO_SHORT));
+    } else {
+        again(run, "short cells", bytes, &given, &Err(TOO_SHORT));
     }
+}
 
-    /// One buffer short, or the cells: number 6.
-    fn too_short(&mut self, bytes: &[u8], lines: &Lines) {
-        let mut given = given(lines, &mut self.rng);
-        let mut places = five(&mut self.rng);
-        let buffer = self.rng.index(6);
-        match places.get_mut(buffer) {
-            Some(places) => *places = too_few(PLACES, &mut self.rng),
-            None => given.cells.truncate(too_few(CELLS, &mut self.rng)),
-        }
-        self.on_lines_into(places, "something short", bytes, &given, &Err(TOO_SHORT));
-        if buffer < places.len() {
-            self.in_order_into(places, bytes, &Err(TOO_SHORT));
-        } else {
-            self.again("short cells", bytes, &given, &Err(TOO_SHORT));
-        }
+// ---------------------------------------------------------------------------------------------- the calls
+
+fn on_lines(run: &mut Run, kind: &str, bytes: &[u8], given: &Given, due: &Due) {
+    let places = five(&mut run.rng);
+    on_lines_into(run, places, kind, bytes, given, due);
+    again(run, kind, bytes, given, due);
+}
+
+fn on_lines_into(run: &mut Run, places: [usize; 5], kind: &str, bytes: &[u8], given: &Given, due: &Due) {
+    let before = buffers(places, &mut run.rng);
+    let mut after = before.clone();
+    let answer = run.calls.time(bytes, given, &mut after);
+    hold(run, kind, bytes, Some(given), due, answer, before, &after);
+}
+
+fn in_order(run: &mut Run, bytes: &[u8], due: &Due) {
+    let places = five(&mut run.rng);
+    in_order_into(run, places, bytes, due);
+}
+
+fn in_order_into(run: &mut Run, places: [usize; 5], bytes: &[u8], due: &Due) {
+    let before = buffers(places, &mut run.rng);
+    let mut after = before.clone();
+    let answer = run.calls.time_order(bytes, &mut after);
+    hold(run, "in order", bytes, None, due, answer, before, &after);
+}
+
+/// Timed once, twice or three times, the greatest end is the same.
+fn again(run: &mut Run, kind: &str, bytes: &[u8], given: &Given, due: &Due) {
+    let times = 1 + run.rng.index(3);
+    let greatest = |sheet: &Sheet| sheet.rows.iter().map(|row| row.end as u64).max().unwrap_or(0);
+    let (due, end) = (due.as_ref().map_or(0, greatest), run.calls.time_again(bytes, given, times));
+    if end != due {
+        tell(run, format!("{kind}, timed {times} times: due end {due}, not {end}"), bytes, Some(given));
     }
+}
 
-    // ---------------------------------------------------------------------------------------------- the calls
-
-    fn on_lines(&mut self, kind: &str, bytes: &[u8], given: &Given, due: &Due) {
-        let places = five(&mut self.rng);
-        self.on_lines_into(places, kind, bytes, given, due);
-        self.again(kind, bytes, given, due);
+/// The answer, the rows, and every other place as it was.
+#[allow(clippy::too_many_arguments)]
+fn hold(
+    run: &mut Run,
+    kind: &str,
+    bytes: &[u8],
+    given: Option<&Given>,
+    due: &Due,
+    answer: Answer,
+    before: Buffers,
+    after: &Buffers,
+) {
+    run.count(due.as_ref().map_or_else(|refused| refused.number as usize, |_| 0));
+    if let Some(what) = amiss(due, answer, before, after) {
+        tell(run, format!("{kind}: {what}"), bytes, given);
     }
+}
 
-    fn on_lines_into(&mut self, places: [usize; 5], kind: &str, bytes: &[u8], given: &Given, due: &Due) {
-        let before = buffers(places, &mut self.rng);
-        let mut after = before.clone();
-        let answer = self.calls.time(bytes, given, &mut after);
-        self.hold(kind, bytes, Some(given), due, answer, before, &after);
+fn tell(run: &mut Run, mut what: String, input: &[u8], lines: Option<&Given>) {
+    let mut files = vec![("input", input.to_vec())];
+    match lines.map(as_words) {
+        Some(Some(words)) => files.push(("lines", words)),
+        Some(None) => what += " (its lines are none that words can say)",
+        None => {}
     }
-
-    fn in_order(&mut self, bytes: &[u8], due: &Due) {
-        let places = five(&mut self.rng);
-        self.in_order_into(places, bytes, due);
-    }
-
-    fn in_order_into(&mut self, places: [usize; 5], bytes: &[u8], due: &Due) {
-        let before = buffers(places, &mut self.rng);
-        let mut after = before.clone();
-        let answer = self.calls.time_order(bytes, &mut after);
-        self.hold("in order", bytes, None, due, answer, before, &after);
-    }
-
-    /// Timed once, twice or three times, the greatest end is the same.
-    fn again(&mut self, kind: &str, bytes: &[u8], given: &Given, due: &Due) {
-        let times = 1 + self.rng.index(3);
-        let greatest = |sheet: &Sheet| sheet.rows.iter().map(|row| row.end as u64).max().unwrap_or(0);
-        let (due, end) = (due.as_ref().map_or(0, greatest), self.calls.time_again(bytes, given, times));
-        if end != due {
-            self.tell(format!("{kind}, timed {times} times: due end {due}, not {end}"), bytes, Some(given));
-        }
-    }
-
-    /// The answer, the rows, and every other place as it was.
-    #[allow(clippy::too_many_arguments)]
-    fn hold(
-        &mut self,
-        kind: &str,
-        bytes: &[u8],
-        given: Option<&Given>,
-        due: &Due,
-        answer: Answer,
-        before: Buffers,
-        after: &Buffers,
-    ) {
-        self.tally.counts[due.as_ref().map_or_else(|refused| refused.number as usize, |_| 0)] += 1;
-        let due_answer = match due {
-            Ok(sheet) => Answer::Rows { count: sheet.rows.len(), fitness: sheet.fitness },
-            Err(refused) => Answer::Refused(*refused),
-        };
-        if answer != due_answer {
-            self.tell(format!("{kind}: due {due_answer:x?}, not {answer:x?}"), bytes, given);
-        } else if let Some(what) = differing(&written(before, due), after) {
-            self.tell(format!("{kind}: {what}"), bytes, given);
-        }
-    }
-
-    fn tell(&mut self, what: String, input: &[u8], lines: Option<&Given>) {
-        let mut what = format!("{}: {what}", self.name);
-        let mut files = vec![("input", input.to_vec())];
-        match lines.map(as_words) {
-            Some(Some(words)) => files.push(("lines", words)),
-            Some(None) => what += " (its lines are none that words can say)",
-            None => {}
-        }
-        self.tally.differences.push(Difference { what, files });
-    }
+    run.tell(what, files);
 }
 
 // ------------------------------------------------------------------------------------------------------ lines
@@ -360,11 +320,12 @@ mod tests {
     use std::collections::BTreeMap;
 
     use super::*;
-    use crate::imitation::{finds, Fault};
+    use crate::generate::Class;
+    use crate::imitation::{finds, Fault, Imitation};
 
     #[test]
     fn faults_are_found() {
-        let check = |calls: &_| tallies(calls, 96);
+        let check = |calls: &Imitation| CHECK.tallies(calls, 96);
         let rows = [Fault::NoTransports, Fault::NoSetups, Fault::NoPredecessors, Fault::OneRowMore, Fault::LastBit];
         let lent = [Fault::ShortSetups, Fault::PlaceBehind, Fault::PlaceRefused, Fault::SeesBuffers];
         let read = [Fault::PlaceOff, Fault::NoStray];

@@ -42,7 +42,7 @@ fn said<S: AsRef<OsStr> + std::fmt::Debug>(arguments: &[S], input: &[u8]) -> Str
 #[test]
 fn bad_arguments_are_one_line_and_2() {
     let here = env!("CARGO_MANIFEST_DIR");
-    let bad: [&[&str]; 65] = [
+    let bad: [&[&str]; 68] = [
         &[],
         &["no-such-mode"],
         &[""],
@@ -94,17 +94,20 @@ fn bad_arguments_are_one_line_and_2() {
         &["decode-check", "1", "2"],
         &["sheet-check", "x"],
         &["sheet-check", "1", "2"],
+        &["program-check"],
+        &["program-check", "1"],
+        &["program-check", "1", "no/such/program"],
+        &["differential"],
+        &["differential", "1"],
+        &["differential", "no/such/program"],
         &["improve-check", "x"],
         &["improve-check", "1", "2"],
-        &["time-bench", "x"],
-        &["time-bench", "--only", "rust", "shop-100"],
-        &["time-bench", "--only", "rust", "shop-100", "x"],
-        &["time-bench", "--only", "neither", "shop-100", "1"],
-        &["time-bench", "--only", "rust", "no-such-plan", "1"],
-        &["improve-bench", "x"],
-        &["improve-bench", "--only", "rust", "ft06", "1"],
-        &["decode-bench", "--only", "rust", "ft06"],
-        &["decode-bench", "--only", "rust", "ft06/60", "1"],
+        &["speed", "x"],
+        &["speed", "--only", "rust", "time", "ft06"],
+        &["speed", "--only", "rust", "time", "ft06", "x"],
+        &["speed", "--only", "neither", "time", "ft06", "1"],
+        &["speed", "--only", "rust", "no-such-work", "ft06", "1"],
+        &["speed", "--only", "rust", "time", "no-such-plan", "1"],
         &["store", "/dev/null/x"],
         &["answers-check", "no/such/folder"],
         &["answers-check", here],
@@ -200,27 +203,35 @@ fn the_tools_fit_together() {
     assert_eq!(report.lines().last(), Some("check: 32 inputs, 0 differences"));
 }
 
+/// This package's own print stands in for the program's.
 #[test]
-fn one_side_alone_times_as_often_as_it_is_told() {
-    for plan in ["shop-100", "full-128", "bare-128"] {
-        let end = |times| said(&["time-bench", "--only", "rust", plan, times], &[]);
-        assert_eq!(end("0"), "0\n");
-        assert!(end("1").trim_end().parse::<u64>().is_ok_and(|end| end > 0), "{plan}");
-        assert_eq!(end("1"), end("3"));
+fn a_program_that_prints_otherwise_is_found() {
+    let own = env!("CARGO_BIN_EXE_compare");
+    let report = said(&["program-check", "32", own, "program"], &[]);
+    assert_eq!(report.lines().last(), Some("program-check: 37 inputs, 69 runs, 0 differences"));
+    let other = format!("{own} program | sed 's/^refused 2/refused 3/'");
+    let output = compare(&["program-check", "32", "sh", "-c", &other], &[]);
+    assert_eq!(output.status.code(), Some(1), "{output:?}");
+    is_one_line_and_2(&["program-check", "32", own, "improve"], &[]);
+}
+
+#[test]
+fn one_side_alone_works_as_often_as_it_is_told() {
+    for work in ["read", "time", "decode", "improve-60"] {
+        assert_eq!(said(&["speed", "--only", "rust", work, "ft06", "2"], &[]), "2\n");
     }
-    assert_eq!(said(&["decode-bench", "--only", "rust", "ft06", "2"], &[]), "2\n");
-    assert_eq!(said(&["improve-bench", "--only", "rust", "shop-15-5/60", "2"], &[]), "2\n");
 }
 
 /// The tools that call the proved library say so where it is not linked.
-#[cfg(not(proved))]
 #[test]
 fn without_the_library_it_is_one_line_and_2() {
+    if lavkkesto::lacking().next().is_none() {
+        return;
+    }
     let checks = ["time-check", "decode-check", "sheet-check", "improve-check"];
-    for tool in checks.into_iter().chain(["time-bench", "decode-bench", "improve-bench"]) {
+    for tool in checks.into_iter().chain(["speed"]) {
         is_one_line_and_2(&[tool], &[]);
     }
     is_one_line_and_2(&["time-check", "1"], &[]);
-    is_one_line_and_2(&["time-bench", "--only", "proved", "shop-100", "1"], &[]);
-    is_one_line_and_2(&["improve-bench", "--only", "proved", "ft06/60", "1"], &[]);
+    is_one_line_and_2(&["speed", "--only", "proved", "time", "ft06", "1"], &[]);
 }

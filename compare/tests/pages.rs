@@ -1,4 +1,4 @@
-//! The commands on docs/DIFFERENCES.md and in the README print what these pages say.
+//! The commands on docs/DIFFERENCES.md and in the README print what these pages say; docs/CALLS.md quotes the examples.
 
 use std::path::Path;
 use std::process::Command;
@@ -55,4 +55,17 @@ fn the_plan_on_the_readme_prints_what_it_says() {
     let stored = compare::text::parse(&plan).expect("a plan");
     let print = compare::modes::answer(&stored, compare::modes::Mode::Program, None);
     assert_eq!(print.ok(), compare::text::expected_print(&plan));
+}
+
+/// `compare/examples` compiles and runs these files.
+#[test]
+fn the_examples_on_the_page_of_calls_are_the_files() {
+    let root = Path::new(env!("CARGO_MANIFEST_DIR")).join("..");
+    let text = |file: &str| std::fs::read_to_string(root.join(file)).expect("the file is there");
+    let page = text("docs/CALLS.md");
+    for (file, language) in [("calls.c", "c"), ("calls.rs", "rust"), ("calls.txt", "text")] {
+        let file = format!("compare/lavkkesto/examples/{file}");
+        let quoted = format!("`{file}`:\n\n```{language}\n{}```\n", text(&file));
+        assert!(page.contains(&quoted), "{file} is not what docs/CALLS.md quotes");
+    }
 }
