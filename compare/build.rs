@@ -21,7 +21,7 @@ const TAKEN: [&str; 5] = [
 ];
 
 /// The calls of the proved library that this package makes.
-const CALLS: [&str; 8] = [
+const CALLS: [&str; 9] = [
     "lavkkesto_time",
     "lavkkesto_time_order",
     "lavkkesto_time_again",
@@ -30,6 +30,7 @@ const CALLS: [&str; 8] = [
     "lavkkesto_decode",
     "lavkkesto_check",
     "lavkkesto_improve",
+    "lavkkesto_look",
 ];
 
 fn main() {

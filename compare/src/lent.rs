@@ -1,8 +1,8 @@
 //! Buffers lent to the library's calls: full of anything before, and looked at place by place after.
 
-use crate::answers::Sheet;
+use crate::answers::{Sheet, Step};
 use crate::generate::Rng;
-use crate::proved::{Buffers, Genes, PLACES};
+use crate::proved::{Buffers, Genes, Views, PLACES, ROW};
 use crate::read::Refused;
 
 pub const TOO_SHORT: Refused = Refused { number: 6, place: 0 };
@@ -62,6 +62,34 @@ pub fn differing(due: &Buffers, found: &Buffers) -> Option<String> {
 /// The same for an order and its assignment.
 pub fn differing_genes(due: &Genes, found: &Genes) -> Option<String> {
     first("tasks", &due.tasks, &found.tasks).or_else(|| first("machines", &due.machines, &found.machines))
+}
+
+/// The views with the step that is due; as they were where a refusal is due. Of three block moves or fewer none is
+/// ranked: their ranks are 0.
+pub fn shown(mut views: Views, due: &Result<Step, Refused>) -> Views {
+    let Ok(step) = due else { return views };
+    views.path[..step.path.len()].copy_from_slice(&step.path);
+    for (row, moved) in views.moves.chunks_mut(ROW).zip(&step.blocks) {
+        row.copy_from_slice(&moved.row());
+    }
+    for (row, tried) in views.kept.chunks_mut(ROW).zip(step.kept.iter().chain(&step.reassignments)) {
+        row.copy_from_slice(&tried.moved.row());
+    }
+    let by_estimate = step.blocks.len() > 3;
+    let of_blocks = step.kept.iter().map(|tried| [if by_estimate { tried.rank[0] } else { 0 }, 0]);
+    let of_others = step.reassignments.iter().map(|tried| [tried.rank[0], tried.rank[1]]);
+    for (rank, due) in views.ranks.chunks_mut(2).zip(of_blocks.chain(of_others)) {
+        rank.copy_from_slice(&due.map(|number| number as u64));
+    }
+    views
+}
+
+/// The first place where the views are not as they must be.
+pub fn differing_views(due: &Views, found: &Views) -> Option<String> {
+    first("path", &due.path, &found.path)
+        .or_else(|| first("moves", &due.moves, &found.moves))
+        .or_else(|| first("kept", &due.kept, &found.kept))
+        .or_else(|| first("ranks", &due.ranks, &found.ranks))
 }
 
 fn first<T: PartialEq + std::fmt::Display>(name: &str, due: &[T], found: &[T]) -> Option<String> {

@@ -30,6 +30,7 @@ pub mod read;
 pub mod sheet;
 pub mod sheet_check;
 pub mod spread;
+pub mod step_check;
 pub mod store;
 pub mod tally;
 pub mod text;

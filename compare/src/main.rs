@@ -10,11 +10,12 @@ use compare::call_bench::{self, Work};
 use compare::generate::{self, Class};
 use compare::modes::{answer, Mode};
 use compare::{
-    board, check, damage, decode_check, improve_check, intake, lines, sheet_check, store, text, time_bench, time_check,
+    board, check, damage, decode_check, improve_check, intake, lines, sheet_check, step_check, store, text, time_bench,
+    time_check,
 };
 
 /// Every way to call the tools; the first one stands for all modes.
-const USAGES: [&str; 18] = [
+const USAGES: [&str; 19] = [
     "MODE [INPUT [LINES]]",
     "to-text [INPUT]",
     "from-text [TEXT]",
@@ -27,6 +28,7 @@ const USAGES: [&str; 18] = [
     "decode-check [N]",
     "sheet-check [N]",
     "improve-check [N]",
+    "step-check [N]",
     "time-bench [--only SIDE PLAN TIMES]",
     "decode-bench [--only SIDE PLAN TIMES]",
     "improve-bench [--only SIDE PLAN TIMES]",
@@ -44,7 +46,7 @@ const INPUTS: u64 = 10_000;
 /// How many inputs `intake-check` runs unless it is told.
 const INTAKES: u64 = 100_000;
 
-/// How many inputs `time-check`, `decode-check` and `improve-check` run unless they are told.
+/// How many inputs `time-check`, `decode-check`, `improve-check` and `step-check` run unless they are told.
 const LIBRARY_INPUTS: u64 = 20_000;
 
 /// How many sheets `sheet-check` runs unless it is told.
@@ -120,6 +122,8 @@ fn dispatch(arguments: &[OsString]) -> Result<Said, String> {
         ["sheet-check", sheets] => Ok(sheet_check::check(number(sheets, "a number of sheets")?)?.into()),
         ["improve-check"] => Ok(improve_check::check(LIBRARY_INPUTS)?.into()),
         ["improve-check", inputs] => Ok(improve_check::check(number(inputs, "a number of inputs")?)?.into()),
+        ["step-check"] => Ok(step_check::check(LIBRARY_INPUTS)?.into()),
+        ["step-check", inputs] => Ok(step_check::check(number(inputs, "a number of inputs")?)?.into()),
         ["time-bench"] => Ok(time_bench::bench()?.into()),
         ["time-bench", "--only", side, plan, times] => {
             let times = number(times, "a number of timings")?;

@@ -13,6 +13,10 @@ pub const STRETCH: usize = 128;
 /// The fewest places that a result buffer may have.
 pub const PLACES: usize = 128;
 
+/// A move is a row of six numbers; the buffer of all block moves may have no fewer cells than 256 rows.
+pub const ROW: usize = 6;
+pub const MOVE_CELLS: usize = 256 * ROW;
+
 /// Each call is declared once. Where the archive has it (build.rs then sets a `cfg` of its name), it is the archive's;
 /// else it is never called.
 macro_rules! calls {
@@ -104,6 +108,16 @@ calls! {
         machines: *mut usize, machines_len: usize,
         code: *mut [u64; 3],
     );
+    fn lavkkesto_look(
+        s: *const u8, s_len: usize,
+        cells: *const usize, cells_len: usize,
+        lens: *const [usize; MACHINES],
+        path: *mut usize, path_len: usize,
+        moves: *mut usize, moves_len: usize,
+        kept: *mut usize, kept_len: usize,
+        ranks: *mut u64, ranks_len: usize,
+        code: *mut [u64; 7],
+    );
 }
 
 /// Lines as the calls take them: machine m's line is the first `lens[m]` cells from `128 * m` on.
@@ -128,6 +142,16 @@ pub struct Buffers {
 pub struct Genes {
     pub tasks: Vec<usize>,
     pub machines: Vec<usize>,
+}
+
+/// The four buffers that a step of the search is shown in: the path; a row of six numbers for each block move; one for
+/// each kept move; two numbers, its rank, for each kept move.
+#[derive(Clone, Debug, PartialEq, Eq)]
+pub struct Views {
+    pub path: Vec<usize>,
+    pub moves: Vec<usize>,
+    pub kept: Vec<usize>,
+    pub ranks: Vec<u64>,
 }
 
 /// Of timing and the decoders: how many rows were written and the bits of their fitness, or a refusal.
@@ -208,6 +232,36 @@ impl Ended {
     }
 }
 
+/// Of a step shown: how many activities of the path, block moves, kept block moves and kept reassignments were written,
+/// and the bits of the line fitness; or a refusal.
+#[derive(Clone, Copy, Debug, PartialEq, Eq)]
+pub enum Looked {
+    Seen {
+        path: usize,
+        moves: usize,
+        blocks: usize,
+        others: usize,
+        fitness: u64,
+    },
+    Refused(Refused),
+    /// Seven numbers that are neither.
+    Unknown([u64; 7]),
+}
+
+impl Looked {
+    /// Number, place, and five times 0 for a refusal; else 0, 0, the four counts, fitness bits.
+    fn of(told: [u64; 7]) -> Looked {
+        let [number, place, counts @ .., fitness] = told;
+        match (number, counts.map(usize::try_from), refused(number, place)) {
+            (0, [Ok(path), Ok(moves), Ok(blocks), Ok(others)], _) if place == 0 => {
+                Looked::Seen { path, moves, blocks, others, fitness }
+            }
+            (_, [Ok(0), Ok(0), Ok(0), Ok(0)], Some(refused)) if fitness == 0 => Looked::Refused(refused),
+            _ => Looked::Unknown(told),
+        }
+    }
+}
+
 fn refused(number: u64, place: u64) -> Option<Refused> {
     match (u32::try_from(number), usize::try_from(place)) {
         (Ok(number @ 1..), Ok(place)) => Some(Refused { number, place }),
@@ -233,6 +287,9 @@ pub trait Calls: Sync {
 
     /// Improves; the cells are work space.
     fn improve(&self, input: &[u8], cells: &mut [usize], genes: &mut Genes) -> Ended;
+
+    /// Shows one step of the search on the given lines.
+    fn look(&self, input: &[u8], lines: &Given, views: &mut Views) -> Looked;
 }
 
 /// The linked library.
@@ -329,5 +386,30 @@ impl Calls for Library {
             );
         }
         Ended::of(code)
+    }
+
+    fn look(&self, input: &[u8], lines: &Given, views: &mut Views) -> Looked {
+        let (Given { cells, lens }, Views { path, moves, kept, ranks }) = (lines, views);
+        let mut code = [u64::MAX; 7];
+        // SAFETY: as above.
+        unsafe {
+            lavkkesto_look(
+                input.as_ptr(),
+                input.len(),
+                cells.as_ptr(),
+                cells.len(),
+                lens,
+                path.as_mut_ptr(),
+                path.len(),
+                moves.as_mut_ptr(),
+                moves.len(),
+                kept.as_mut_ptr(),
+                kept.len(),
+                ranks.as_mut_ptr(),
+                ranks.len(),
+                &mut code,
+            );
+        }
+        Looked::of(code)
     }
 }

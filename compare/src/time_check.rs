@@ -36,7 +36,7 @@ fn tallies(calls: &impl Calls, inputs: u64) -> Vec<(&'static str, Tally)> {
 }
 
 /// Lines as a file holds them; none where a cell is no word or a line leaves its stretch.
-fn as_words(given: &Given) -> Option<Vec<u8>> {
+pub(crate) fn as_words(given: &Given) -> Option<Vec<u8>> {
     let line = |machine: usize| -> Option<Vec<u32>> {
         let stretch = given.cells.get(STRETCH * machine..STRETCH * (machine + 1))?;
         stretch.get(..given.lens[machine])?.iter().map(|&cell| u32::try_from(cell).ok()).collect()
@@ -254,7 +254,7 @@ impl<'a, C: Calls> Run<'a, C> {
 // ------------------------------------------------------------------------------------------------------ lines
 
 /// A sequence of all activities dealt over the machines, sometimes over one alone.
-fn dealt(sequence: Vec<usize>, plan: &Plan, rng: &mut Rng) -> Lines {
+pub(crate) fn dealt(sequence: Vec<usize>, plan: &Plan, rng: &mut Rng) -> Lines {
     let mut lines = vec![Vec::new(); plan.transports.len()];
     let one = rng.chance(10).then(|| rng.index(lines.len()));
     let assigned = rng.chance(50);
@@ -271,7 +271,7 @@ fn dealt(sequence: Vec<usize>, plan: &Plan, rng: &mut Rng) -> Lines {
 }
 
 /// One to three small changes: two neighbours swapped, or one moved to some position of some line.
-fn changed(mut lines: Lines, rng: &mut Rng) -> Lines {
+pub(crate) fn changed(mut lines: Lines, rng: &mut Rng) -> Lines {
     for _ in 0..rng.within(1, 3) {
         let filled: Vec<usize> = (0..lines.len()).filter(|&machine| !lines[machine].is_empty()).collect();
         let machine = rng.pick(&filled);
@@ -289,7 +289,7 @@ fn changed(mut lines: Lines, rng: &mut Rng) -> Lines {
 }
 
 /// Lines as the calls take them; cells outside the lines hold anything, activities among it.
-fn given(lines: &Lines, rng: &mut Rng) -> Given {
+pub(crate) fn given(lines: &Lines, rng: &mut Rng) -> Given {
     let cells = enough(CELLS, rng);
     let mut given = Given { cells: (0..cells).map(|_| any_cell(rng)).collect(), lens: [0; MACHINES] };
     for (machine, line) in lines.iter().enumerate() {
@@ -308,7 +308,7 @@ fn any_cell(rng: &mut Rng) -> usize {
 }
 
 /// Breaks number 7 in one way that it names, and says which; the lines were good.
-fn break_lines(given: &mut Given, plan: &Plan, rng: &mut Rng) -> &'static str {
+pub(crate) fn break_lines(given: &mut Given, plan: &Plan, rng: &mut Rng) -> &'static str {
     let (n, machines) = (plan.activities.len(), plan.transports.len());
     let filled: Vec<usize> = (0..machines).filter(|&machine| given.lens[machine] > 0).collect();
     let machine = rng.pick(&filled);
