@@ -96,6 +96,8 @@ fn bad_arguments_are_one_line_and_2() {
         &["sheet-check", "1", "2"],
         &["improve-check", "x"],
         &["improve-check", "1", "2"],
+        &["step-check", "x"],
+        &["step-check", "1", "2"],
         &["time-bench", "x"],
         &["time-bench", "--only", "rust", "shop-100"],
         &["time-bench", "--only", "rust", "shop-100", "x"],
@@ -216,7 +218,7 @@ fn one_side_alone_times_as_often_as_it_is_told() {
 #[cfg(not(proved))]
 #[test]
 fn without_the_library_it_is_one_line_and_2() {
-    let checks = ["time-check", "decode-check", "sheet-check", "improve-check"];
+    let checks = ["time-check", "decode-check", "sheet-check", "improve-check", "step-check"];
     for tool in checks.into_iter().chain(["time-bench", "decode-bench", "improve-bench"]) {
         is_one_line_and_2(&[tool], &[]);
     }

@@ -19,12 +19,12 @@ well-formed-requires : tie.Need-well-formed-requires
 well-formed-requires c κs = search needs
 
 returns : tie.Need-returns
-returns c = 
+returns c =
     let e = seven (problemOf (words (now (c .before .before .before .before .before .before .before .before .before .before .before .args .s))) (c .before .before .before .before .before .before .before .before .before .before .before .args .z)) (linesIn (now (c .before .before .before .before .before .before .before .before .before .before .before .args .cells)) (c .before .before .before .before .before .before .before .before .before .before .before .args .lens)) (wellFormed ((problemOf (words (now (c .before .before .before .before .before .before .before .before .before .before .before .args .s))) (c .before .before .before .before .before .before .before .before .before .before .before .args .z)) .n) ((problemOf (words (now (c .before .before .before .before .before .before .before .before .before .before .before .args .s))) (c .before .before .before .before .before .before .before .before .before .before .before .args .z)) .machines) (linesIn (now (c .before .before .before .before .before .before .before .before .before .before .before .args .cells)) (c .before .before .before .before .before .before .before .before .before .before .before .args .lens))) (sym (c .before .before .well-formed .ensures) ∙ denied _ (c .if1 .taken)) in
     (ap answerOf e, refused e)
 
 look-lines-requires : tie.Need-look-lines-requires
-look-lines-requires c κs = 
+look-lines-requires c κs =
     ((c .before .before .before .before .before .before .before .before .before .before .before .before .before .before .before .pre .0 .0, c .before .before .before .before .before .before .before .before .before .before .before .before .before .before .before .pre .0 .1, test-sound ((problemOf (words (now (c .before .before .before .before .before .before .before .before .before .before .before .before .before .before .before .args .s))) (c .before .before .before .before .before .before .before .before .before .before .before .before .before .before .before .args .z)) .n) ((problemOf (words (now (c .before .before .before .before .before .before .before .before .before .before .before .before .before .before .before .args .s))) (c .before .before .before .before .before .before .before .before .before .before .before .before .before .before .before .args .z)) .machines) (linesIn (now (c .before .before .before .before .before .before .before .before .before .before .before .before .before .before .before .args .cells)) (c .before .before .before .before .before .before .before .before .before .before .before .before .before .before .before .args .lens)) (sym (c .before .before .before .before .before .before .well-formed .ensures) ∙ granted _ (c .before .before .before .before .if1 .left))), c .before .before .before .before .before .before .before .before .before .before .before .before .before .before .before .pre .1)
 
 same-length : tie.Need-same-length
@@ -40,7 +40,7 @@ same-length-4 : tie.Need-same-length-4
 same-length-4 c = search needs
 
 returns-2 : tie.Need-returns-2
-returns-2 c = 
+returns-2 c =
     let e = not-seven (problemOf (words (now (c .before .before .before .before .before .before .before .before .before .before .before .before .before .before .before .before .before .before .before .before .before .before .before .before .args .s))) (c .before .before .before .before .before .before .before .before .before .before .before .before .before .before .before .before .before .before .before .before .before .before .before .before .args .z)) (linesIn (now (c .before .before .before .before .before .before .before .before .before .before .before .before .before .before .before .before .before .before .before .before .before .before .before .before .args .cells)) (c .before .before .before .before .before .before .before .before .before .before .before .before .before .before .before .before .before .before .before .before .before .before .before .before .args .lens)) (wellFormed ((problemOf (words (now (c .before .before .before .before .before .before .before .before .before .before .before .before .before .before .before .before .before .before .before .before .before .before .before .before .args .s))) (c .before .before .before .before .before .before .before .before .before .before .before .before .before .before .before .before .before .before .before .before .before .before .before .before .args .z)) .n) ((problemOf (words (now (c .before .before .before .before .before .before .before .before .before .before .before .before .before .before .before .before .before .before .before .before .before .before .before .before .args .s))) (c .before .before .before .before .before .before .before .before .before .before .before .before .before .before .before .before .before .before .before .before .before .before .before .before .args .z)) .machines) (linesIn (now (c .before .before .before .before .before .before .before .before .before .before .before .before .before .before .before .before .before .before .before .before .before .before .before .before .args .cells)) (c .before .before .before .before .before .before .before .before .before .before .before .before .before .before .before .before .before .before .before .before .before .before .before .before .args .lens))) (sym (c .before .before .before .before .before .before .before .before .before .before .before .before .before .before .before .well-formed .ensures) ∙ granted _ (c .before .before .before .before .before .before .before .before .before .before .before .before .before .if1 .left)) in
     (c .before .before .before .before .before .before .before .before .look-lines .ensures .0 ∙ ap answerOf e, leaves-as e (c .before .before .before .before .before .before .before .before .look-lines .ensures .1))
 
