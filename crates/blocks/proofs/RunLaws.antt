@@ -129,7 +129,7 @@ own-closed run l h = rw (lt-ltb (run .first) (run .last) h)
 pub own-single : (run : Block) (l : List Block) → run .last ≤ run .first → ownMovesOfAll (closed run ++ l) ≡ ownMovesOfAll l
 own-single run l h = rw (le-ltb (run .first) (run .last) h)
 
-run-many : (m f l : ℕ) (rest : List Block) → length (ownMovesOfAll (closed (block m f l) ++ rest)) ≡ movesIn (l - f) + length (ownMovesOfAll rest)
+pub run-many : (m f l : ℕ) (rest : List Block) → length (ownMovesOfAll (closed (block m f l) ++ rest)) ≡ movesIn (l - f) + length (ownMovesOfAll rest)
 run-many m f l rest =
     either (l - f) 0
     (λ e. rw (own-single (block m f l) rest (omega arith), e) (omega arith))

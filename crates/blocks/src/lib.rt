@@ -3,6 +3,7 @@ mod offers;
 mod runs;
 mod stretch;
 
+pub use runs::block_end;
 pub use runs::count_moves;
 ghost use mathlib.Core.Path.{_≡_};
 ghost use mathlib.Core.List.{List, []};

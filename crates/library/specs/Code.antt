@@ -8,6 +8,9 @@ use Rattle.checking.specs.declared.Checked.the-variants.{Refused as NotTaken, A
 use Rattle.improving.specs.declared.Answer.{Answer as Improved}
 use Rattle.improving.specs.declared.Answer.the-variants.{NoSteps, Incomplete, Contradictory, NothingBetter, Better}
 use Rattle.improving.specs.declared.Answer.the-variants as improved
+use Rattle.looking.specs.declared.Answer.{Answer as Looked}
+use Rattle.looking.specs.declared.Answer.the-variants.{Seen}
+use Rattle.looking.specs.declared.Answer.the-variants as looked
 
 -- A call that writes a sheet: the number and the place of a refusal; or no refusal, how many rows, and the bits of their fitness.
 abbrev pub codeOf : Answer → List ℕ
@@ -30,3 +33,9 @@ improveCode Incomplete = 11 ∷ 0 ∷ 0 ∷ []
 improveCode Contradictory = 12 ∷ 0 ∷ 0 ∷ []
 improveCode (NothingBetter bits) = 13 ∷ 0 ∷ bits ∷ []
 improveCode (Better bits) = 14 ∷ 0 ∷ bits ∷ []
+
+-- A step shown, as seven numbers: the number and the place of a refusal; or no refusal, how many activities of the path, block moves, kept block
+-- moves and kept reassignments, and the bits of the line fitness.
+abbrev pub lookCode : Looked → List ℕ
+lookCode (looked.Refused number place) = number ∷ place ∷ 0 ∷ 0 ∷ 0 ∷ 0 ∷ 0 ∷ []
+lookCode (Seen path moves blocks others bits) = 0 ∷ 0 ∷ path ∷ moves ∷ blocks ∷ others ∷ bits ∷ []

@@ -2,6 +2,7 @@
 mod checked;
 mod decoded;
 mod improved;
+mod looked;
 mod timed;
 
 use calls::Answer;

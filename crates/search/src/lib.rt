@@ -2,7 +2,7 @@
 mod saving;
 mod step;
 mod steps;
-mod survey;
+pub mod survey;
 
 use ranking::Three;
 pub use saving::save;

@@ -19,7 +19,7 @@ ghost use Rattle.search.specs.Asked.{Lined, Space};
 ghost use Rattle.trial.specs.Trial.{Ready, AllAllowed};
 
 // Writes the links of the lines, the path from the place answered on, and the tails.
-fn survey(
+pub fn survey(
     s: &[u8],
     z: Layout,
     table: &[usize],
