@@ -34,7 +34,7 @@ fn see_path(
     s: &[u8],
     z: Layout,
     table: &[usize],
-    ways: [[u32; 16]; 16],
+    ways: &[[u32; 16]; 16],
     cells: &[usize],
     lens: [usize; 16],
     order: &[usize],
@@ -49,7 +49,7 @@ fn see_path(
     path: &mut [usize],
     moves: &mut [usize],
 ) -> Walked
-    requires { ⌜ Ready (now s) z (now table) ways × Lined (z .activities) (z .machines) (now cells) lens × Timed (problemOf (words (now s)) z) (linesIn (now cells) lens) (now order) (now starts) (now ends) ⌝ }
+    requires { ⌜ Ready (now s) z (now table) (now ways) × Lined (z .activities) (z .machines) (now cells) lens × Timed (problemOf (words (now s)) z) (linesIn (now cells) lens) (now order) (now starts) (now ends) ⌝ }
     requires { ⌜ (length (now before) ≡ z .activities) × (length (now after) ≡ z .activities) × (length (now machines) ≡ z .activities) × (length (now places) ≡ z .activities) × (length (now trail) ≡ z .activities) × (length (now tail) ≡ z .activities) × (128 ≤ length (now path)) × (1536 ≤ length (now moves)) ⌝ }
     ensures counts { λ r. ⌜ (r .path ≡ length (pathOn (problemOf (words (now (s .entry))) z) (linesIn (now (cells .entry)) lens))) × (r .moves ≡ length (movesOn (problemOf (words (now (s .entry))) z) (linesIn (now (cells .entry)) lens))) ⌝ }
     ensures path { λ _. ⌜ now (path .exit) ≡ over (pathOn (problemOf (words (now (s .entry))) z) (linesIn (now (cells .entry)) lens)) (now (path .entry)) ⌝ }
@@ -88,7 +88,7 @@ fn see_kept(
     s: &[u8],
     z: Layout,
     table: &[usize],
-    ways: [[u32; 16]; 16],
+    ways: &[[u32; 16]; 16],
     cells: &[usize],
     lens: [usize; 16],
     order: &[usize],
@@ -104,7 +104,7 @@ fn see_kept(
     kept: &mut [usize],
     ranks: &mut [u64],
 ) -> Held
-    requires { ⌜ Ready (now s) z (now table) ways × Lined (z .activities) (z .machines) (now cells) lens × Timed (problemOf (words (now s)) z) (linesIn (now cells) lens) (now order) (now starts) (now ends) ⌝ }
+    requires { ⌜ Ready (now s) z (now table) (now ways) × Lined (z .activities) (z .machines) (now cells) lens × Timed (problemOf (words (now s)) z) (linesIn (now cells) lens) (now order) (now starts) (now ends) ⌝ }
     requires { ⌜ Space (z .activities) (now before) (now after) (now machines) (now places) (now trail) (now tail) (now heads) × (128 ≤ length (now kept)) × (128 ≤ length (now ranks)) ⌝ }
     ensures counts { λ r. ⌜ (r .blocks ≡ length (blocksOn (problemOf (words (now (s .entry))) z) (linesIn (now (cells .entry)) lens))) × (r .others ≡ length (othersOn (problemOf (words (now (s .entry))) z) (linesIn (now (cells .entry)) lens))) ⌝ }
     ensures kept { λ _. ⌜ now (kept .exit) ≡ over (rowsOf (movesOf (blocksOn (problemOf (words (now (s .entry))) z) (linesIn (now (cells .entry)) lens))) ++ rowsOf (movesOf (othersOn (problemOf (words (now (s .entry))) z) (linesIn (now (cells .entry)) lens)))) (now (kept .entry)) ⌝ }
@@ -145,7 +145,7 @@ pub fn see(
     s: &[u8],
     z: Layout,
     table: &[usize],
-    ways: [[u32; 16]; 16],
+    ways: &[[u32; 16]; 16],
     cells: &[usize],
     lens: [usize; 16],
     order: &[usize],
@@ -163,7 +163,7 @@ pub fn see(
     kept: &mut [usize],
     ranks: &mut [u64],
 ) -> Answer
-    requires { ⌜ Ready (now s) z (now table) ways × Lined (z .activities) (z .machines) (now cells) lens × Timed (problemOf (words (now s)) z) (linesIn (now cells) lens) (now order) (now starts) (now ends) ⌝ }
+    requires { ⌜ Ready (now s) z (now table) (now ways) × Lined (z .activities) (z .machines) (now cells) lens × Timed (problemOf (words (now s)) z) (linesIn (now cells) lens) (now order) (now starts) (now ends) ⌝ }
     requires { ⌜ Space (z .activities) (now before) (now after) (now machines) (now places) (now trail) (now tail) (now heads) × (128 ≤ length (now path)) × (1536 ≤ length (now moves)) × (128 ≤ length (now kept)) × (128 ≤ length (now ranks)) ⌝ }
     ensures answer { λ r. ⌜ r ≡ answerOf (seen (sightOf (problemOf (words (now (s .entry))) z) (linesIn (now (cells .entry)) lens))) ⌝ }
     ensures left { λ _. ⌜ Leaves (seen (sightOf (problemOf (words (now (s .entry))) z) (linesIn (now (cells .entry)) lens))) (now (path .entry)) (now (moves .entry)) (now (kept .entry)) (now (ranks .entry)) (now (path .exit)) (now (moves .exit)) (now (kept .exit)) (now (ranks .exit)) ⌝ }
