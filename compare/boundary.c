@@ -11,7 +11,7 @@
 
 #include "lavkkesto.h"
 
-enum { ROWS = 5, TOLD = 10 };
+enum { ROWS = 5, VIEWS = 4, TOLD = 10 };
 _Static_assert(sizeof(size_t) == sizeof(uint64_t), "a number is a cell of eight bytes");
 
 static uint64_t calls, errors;
@@ -161,6 +161,83 @@ static void hold_again(const struct input *in, const char *due) {
     }
 }
 
+/* ----------------------------------------------------------------------------------------------------------- a step of the search */
+
+/* The end of an activity's row in a text; 0 where it has none. */
+static uint64_t end_of(const char *text, uint64_t activity) {
+    uint64_t own, end;
+    for (const char *line = strchr(text, '\n'); line != NULL && line[1] != 0; line = strchr(line + 1, '\n'))
+        if (sscanf(line, " %" SCNu64 " %*u %*u %" SCNu64, &own, &end) == 2 && own == activity) return end;
+    return 0;
+}
+
+/* Into views of so many places. The timing of the same lines says what is due: its refusal; or its fitness, and a path to its greatest
+   end. The moves are step-check's part; here each is of its kind. */
+static void hold_look(const struct input *in, const size_t places[VIEWS], const char *due) {
+    uint64_t *lent[VIEWS], *before[VIEWS], *code = garbage(7);
+    for (int b = 0; b < VIEWS; b++) {
+        lent[b] = garbage(places[b]);
+        before[b] = copied(lent[b], places[b] * sizeof(uint64_t));
+    }
+    calls++;
+    lavkkesto_look(in->plan, in->length, in->cells, in->cells_length, in->lens, lent[0], places[0], lent[1], places[1], lent[2],
+                   places[2], lent[3], places[3], code);
+    struct text found = {0};
+    size_t path = code[2], moves = code[3], blocks = code[4], kept = code[4] + code[5];
+    int odd = code[0] != 0 ? (path | moves | blocks | kept | code[6]) != 0
+                           : code[1] != 0 || path == 0 || path > 128 || moves > 254 || blocks > 3 || code[5] > 3;
+    if (code[0] != 0)
+        put(&found, "refused %" PRIu64 " %" PRIu64 "\n", code[0], code[1]);
+    else
+        put(&found, "fitness %016" PRIx64 "\n", code[6]);
+    if (strncmp(found.bytes, due, found.length) != 0) error("look", "another answer", due, found.bytes);
+    if (odd) error("look", "numbers that no answer has", "", "");
+    if (odd || code[0] != 0) path = moves = blocks = kept = 0;
+    if (path > 0 && end_of(due, lent[0][path - 1]) != greatest_end(due)) error("look", "a path that ends early", due, "");
+    for (size_t k = 0; k < moves; k++)
+        if (lent[1][6 * k] > 1) error("look", "no block move", "", "");
+    for (size_t k = 0; k < kept; k++)
+        if (k < blocks ? lent[2][6 * k] > 1 : lent[2][6 * k] != 2) error("look", "a kept move of another kind", "", "");
+    const size_t written[VIEWS] = {path, 6 * moves, 6 * kept, 2 * kept};
+    for (int b = 0; b < VIEWS; b++) {
+        held_as_before("look", lent[b], before[b], written[b], places[b]);
+        free(lent[b]);
+        free(before[b]);
+    }
+    free(code);
+}
+
+/* With enough, with each view one cell short, and with the cells of the lines one short. */
+static void hold_looks(const struct input *in, const char *due) {
+    size_t places[VIEWS] = {LAVKKESTO_PLACES, LAVKKESTO_MOVE_CELLS, LAVKKESTO_PLACES, LAVKKESTO_PLACES};
+    hold_look(in, places, due);
+    for (int b = 0; b < VIEWS; b++) {
+        places[b]--;
+        hold_look(in, places, "refused 6 0\n");
+        places[b]++;
+    }
+    size_t *fewer = copied(in->cells, (LAVKKESTO_CELLS - 1) * sizeof *fewer);
+    struct input cut = *in;
+    cut.cells = fewer, cut.cells_length = LAVKKESTO_CELLS - 1;
+    hold_look(&cut, places, "refused 6 0\n");
+    free(fewer);
+}
+
+/* On the lines of the order, which the rows of their timing give, machine by machine. Without rows there are no lines: 7 then too, but
+   nothing to look at where they contradict. */
+static void hold_looks_in_order(const struct input *in, const char *due) {
+    size_t *cells = garbage(LAVKKESTO_CELLS), lens[LAVKKESTO_MACHINES] = {0}, activity, machine;
+    if (strncmp(due, "refused", 7) != 0)
+        for (const char *line = strchr(due, '\n'); line != NULL && line[1] != 0; line = strchr(line + 1, '\n')) {
+            if (sscanf(line, " %zu %zu", &activity, &machine) != 2 || machine >= LAVKKESTO_MACHINES) stop("no row");
+            if (lens[machine] == 128) stop("a line with too many rows");
+            cells[128 * machine + lens[machine]++] = activity;
+        }
+    struct input with = {in->plan, in->length, cells, copied(lens, sizeof lens), LAVKKESTO_CELLS};
+    if (strncmp(due, "refused 8", 9) != 0) hold_looks(&with, due);
+    free(cells), free((void *)with.lens);
+}
+
 /* ------------------------------------------------------------------------------------------------------------------------ Improve */
 
 /* With so many cells, tasks and machines. What the cells held is never told: memcheck would see an answer that depends on it. */
@@ -250,6 +327,7 @@ static void hold_refused(const uint8_t *plan, size_t length, uint64_t number, si
     hold_sheets("decode", lavkkesto_decode, &in, due.bytes);
     hold_sheets("time", NULL, &in, due.bytes);
     hold_again(&in, "");
+    hold_looks(&in, due.bytes);
     hold_improves(&in, 0, due.bytes);
     hold_check_of(&in, 0, due.bytes);
     free(cells), free((void *)in.plan), free((void *)in.lens);
@@ -315,6 +393,7 @@ static void hold_lines(const struct stored *one) {
     struct input in = {one->plan, one->length, cells, copied(lens, sizeof lens), LAVKKESTO_CELLS};
     hold_sheets("time", NULL, &in, one->due[TIME].bytes);
     hold_again(&in, one->due[TIME].bytes);
+    hold_looks(&in, one->due[TIME].bytes);
     free(cells), free((void *)in.lens);
 }
 
@@ -328,6 +407,7 @@ static void hold_case(const struct stored *one) {
     int refused = strncmp(one->due[DECODE].bytes, "refused", 7) == 0;
     size_t n = refused ? 0 : word_at(in.plan, in.length, 4 + 20 * (size_t)word_at(in.plan, in.length, 0));
     hold_sheets("time_order", lavkkesto_time_order, &in, one->due[TIME].bytes);
+    hold_looks_in_order(&in, one->due[TIME].bytes);
     hold_sheets("in_order", lavkkesto_in_order, &in, one->due[IN_ORDER].bytes);
     hold_sheets("active", lavkkesto_active, &in, one->due[ACTIVE].bytes);
     hold_sheets("decode", lavkkesto_decode, &in, one->due[DECODE].bytes);

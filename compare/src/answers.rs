@@ -65,6 +65,33 @@ pub enum Moved {
     Reassign { activity: usize, from: usize, at: usize, to: usize, pos: usize },
 }
 
+impl Moved {
+    /// The lines once the move is made.
+    pub fn applied(self, mut lines: Vec<Vec<usize>>) -> Vec<Vec<usize>> {
+        match self {
+            Moved::Swap { machine, at } => lines[machine].swap(at, at + 1),
+            Moved::Shift { machine, from, to } => {
+                let moved = lines[machine].remove(from);
+                lines[machine].insert(to, moved);
+            }
+            Moved::Reassign { activity, from, at, to, pos } => {
+                lines[from].remove(at);
+                lines[to].insert(pos, activity);
+            }
+        }
+        lines
+    }
+
+    /// The move as a row: its kind, then its own numbers, then 0 for each that it has not.
+    pub fn row(self) -> [usize; 6] {
+        match self {
+            Moved::Swap { machine, at } => [0, machine, at, 0, 0, 0],
+            Moved::Shift { machine, from, to } => [1, machine, from, to, 0, 0],
+            Moved::Reassign { activity, from, at, to, pos } => [2, activity, from, at, to, pos],
+        }
+    }
+}
+
 impl Display for Moved {
     fn fmt(&self, f: &mut Formatter<'_>) -> fmt::Result {
         match *self {

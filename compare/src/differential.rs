@@ -10,9 +10,10 @@ use crate::program::{self, Program};
 use crate::proved::{Calls, Library};
 use crate::spread::progress;
 use crate::tally::{told, Table, Tally};
-use crate::{decode_check, improve_check, sheet_check, time_check};
+use crate::{decode_check, improve_check, sheet_check, step_check, time_check};
 
-const CHECKS: [&Check; 4] = [&time_check::CHECK, &decode_check::CHECK, &sheet_check::CHECK, &improve_check::CHECK];
+const CHECKS: [&Check; 5] =
+    [&time_check::CHECK, &decode_check::CHECK, &sheet_check::CHECK, &improve_check::CHECK, &step_check::CHECK];
 
 /// Of so many inputs of a class one goes through the program, since each takes a process of its own.
 const SHARE: u64 = 20;
@@ -119,10 +120,8 @@ mod tests {
     fn a_fault_of_any_call_is_found() {
         let check =
             |calls: &Imitation| generated(calls, &tables().1, 96, |input| input.tally(program::TABLE.columns.len()));
-        finds(
-            check,
-            &[Fault::LastBit, Fault::AlwaysInOrder, Fault::RowsFromOne, Fault::NotImproved, Fault::PlaceRefused],
-        );
+        let of_calls = [Fault::AlwaysInOrder, Fault::RowsFromOne, Fault::NotImproved, Fault::OneKeptLess];
+        finds(check, &[&of_calls[..], &[Fault::LastBit, Fault::PlaceRefused]].concat());
     }
 
     #[test]

@@ -1,11 +1,11 @@
 //! The library's calls made of this package's Rust, with one fault or none, so that the checks' tests can show that they
 //! find it.
 
-use crate::answers::Sheet;
+use crate::answers::{Sheet, Step};
 use crate::decoding;
-use crate::lent::{written, TOO_SHORT};
+use crate::lent::{shown, written, TOO_SHORT};
 use crate::plan::Plan;
-use crate::proved::{Answer, Buffers, Calls, Checked, Ended, Genes, Given, CELLS, PLACES};
+use crate::proved::{Answer, Buffers, Calls, Checked, Ended, Genes, Given, Looked, Views, CELLS, MOVE_CELLS, PLACES};
 use crate::published::{Decoder, Published};
 use crate::read::{read, Refused};
 use crate::tally::Tally;
@@ -48,6 +48,18 @@ pub enum Fault {
     ShortTasks,
     ShortMachines,
     ShortCells,
+    /// A step shown has its path backwards, a swap twice, three moves sorted, a kept move too few, a reassignment's time
+    /// before its length, one move less counted; it is content with one cell or place less.
+    PathBackwards,
+    SwapTwice,
+    ThreeSorted,
+    OneKeptLess,
+    TimeFirst,
+    OneMoveLess,
+    ShortPath,
+    ShortMoves,
+    ShortKept,
+    ShortRanks,
 }
 
 pub struct Imitation(pub Fault);
@@ -204,6 +216,65 @@ impl Calls for Imitation {
         let fitness = if self.is(Fault::FirstFitness) { before } else { improved.fitness };
         let fitness = fitness.map(|bits| bits ^ u64::from(off));
         Ended::Outcome { number, fitness: fitness.filter(|_| number >= 13) }
+    }
+
+    fn look(&self, input: &[u8], lines: &Given, views: &mut Views) -> Looked {
+        let odd = views.path.first().is_some_and(|first| first % 2 == 1);
+        let due = self.step_of(input, lines, views).map(|step| self.spoilt(step));
+        *views = shown(views.clone(), &due);
+        match due {
+            Ok(step) => {
+                if self.is(Fault::PlaceBehind) {
+                    views.ranks.last_mut().into_iter().for_each(|place| *place ^= 1);
+                }
+                let off = self.is(Fault::LastBit) || self.is(Fault::SeesBuffers) && odd;
+                Looked::Seen {
+                    path: step.path.len(),
+                    moves: step.blocks.len().saturating_sub(usize::from(self.is(Fault::OneMoveLess))),
+                    blocks: step.kept.len(),
+                    others: step.reassignments.len(),
+                    fitness: step.fitness ^ u64::from(off),
+                }
+            }
+            Err(refused) => {
+                if self.is(Fault::PlaceRefused) {
+                    views.moves.first_mut().into_iter().for_each(|place| *place ^= 1);
+                }
+                Looked::Refused(refused)
+            }
+        }
+    }
+}
+
+impl Imitation {
+    fn step_of(&self, input: &[u8], lines: &Given, views: &Views) -> Result<Step, Refused> {
+        let least = |fault: Fault, least: usize| least - usize::from(self.is(fault));
+        let short = lines.cells.len() < least(Fault::ShortCells, CELLS)
+            || views.path.len() < least(Fault::ShortPath, PLACES)
+            || views.moves.len() < least(Fault::ShortMoves, MOVE_CELLS)
+            || views.kept.len() < least(Fault::ShortKept, PLACES)
+            || views.ranks.len() < least(Fault::ShortRanks, PLACES);
+        if short {
+            return Err(TOO_SHORT);
+        }
+        let plan = self.read(input)?;
+        let lines = timing::lines_given(&plan, &Given { cells: [&lines.cells[..], &[0]].concat(), ..*lines })?;
+        let step = Published::new(&plan).with_lines(&lines).step(&lines);
+        step.ok_or(Refused { number: 8, place: 0 })
+    }
+
+    /// The step with what is wrong in it.
+    fn spoilt(&self, mut step: Step) -> Step {
+        let few = step.blocks.len() <= 3;
+        match self.0 {
+            Fault::PathBackwards => step.path.reverse(),
+            Fault::SwapTwice => step.blocks.extend(step.blocks.first().copied()),
+            Fault::ThreeSorted if few => step.kept.sort_by_key(|tried| tried.rank[0]),
+            Fault::OneKeptLess => drop(step.kept.pop()),
+            Fault::TimeFirst => step.reassignments.iter_mut().for_each(|tried| tried.rank.reverse()),
+            _ => {}
+        }
+        step
     }
 }
 

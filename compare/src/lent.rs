@@ -1,8 +1,8 @@
 //! Buffers lent to the library's calls: full of anything before, and looked at place by place after.
 
-use crate::answers::Sheet;
+use crate::answers::{Sheet, Step};
 use crate::generate::Rng;
-use crate::proved::{Answer, Buffers, Genes, PLACES};
+use crate::proved::{Answer, Buffers, Genes, Looked, Views, PLACES, RANK, ROW};
 use crate::read::Refused;
 
 pub const TOO_SHORT: Refused = Refused { number: 6, place: 0 };
@@ -76,6 +76,59 @@ pub fn differing_genes(due: &Genes, found: &Genes) -> Option<String> {
     first("tasks", &due.tasks, &found.tasks).or_else(|| first("machines", &due.machines, &found.machines))
 }
 
+/// Views of so many places.
+pub fn views(places: [usize; 4], rng: &mut Rng) -> Views {
+    let [path, moves, kept, ranks] = places;
+    let (path, moves, kept) = (numbers(path, rng), numbers(moves, rng), numbers(kept, rng));
+    Views { path, moves, kept, ranks: (0..ranks).map(|_| rng.next()).collect() }
+}
+
+/// The views with the step that is due; as they were where a refusal is due. Of three block moves or fewer none is
+/// ranked: their ranks are 0.
+pub fn shown(mut views: Views, due: &Result<Step, Refused>) -> Views {
+    let Ok(step) = due else { return views };
+    views.path.iter_mut().zip(&step.path).for_each(|(place, &activity)| *place = activity);
+    for (row, moved) in views.moves.chunks_mut(ROW).zip(&step.blocks) {
+        row.copy_from_slice(&moved.row());
+    }
+    for (row, tried) in views.kept.chunks_mut(ROW).zip(step.kept.iter().chain(&step.reassignments)) {
+        row.copy_from_slice(&tried.moved.row());
+    }
+    let by_estimate = step.blocks.len() > 3;
+    let of_blocks = step.kept.iter().map(|tried| [if by_estimate { tried.rank[0] } else { 0 }, 0]);
+    let of_others = step.reassignments.iter().map(|tried| [tried.rank[0], tried.rank[1]]);
+    for (rank, due) in views.ranks.chunks_mut(RANK).zip(of_blocks.chain(of_others)) {
+        rank.copy_from_slice(&due.map(|number| number as u64));
+    }
+    views
+}
+
+/// How a step's answer, or a place of the views, is not as it must be.
+pub fn amiss_in_view(due: &Result<Step, Refused>, looked: Looked, before: Views, after: &Views) -> Option<String> {
+    let due_answer = match due {
+        Ok(step) => Looked::Seen {
+            path: step.path.len(),
+            moves: step.blocks.len(),
+            blocks: step.kept.len(),
+            others: step.reassignments.len(),
+            fitness: step.fitness,
+        },
+        Err(refused) => Looked::Refused(*refused),
+    };
+    match looked == due_answer {
+        true => differing_views(&shown(before, due), after),
+        false => Some(format!("due {due_answer:x?}, not {looked:x?}")),
+    }
+}
+
+/// The first place where the views are not as they must be.
+fn differing_views(due: &Views, found: &Views) -> Option<String> {
+    first("path", &due.path, &found.path)
+        .or_else(|| first("moves", &due.moves, &found.moves))
+        .or_else(|| first("kept", &due.kept, &found.kept))
+        .or_else(|| first("ranks", &due.ranks, &found.ranks))
+}
+
 fn first<T: PartialEq + std::fmt::Display>(name: &str, due: &[T], found: &[T]) -> Option<String> {
     let k = due.iter().zip(found).position(|(due, found)| due != found)?;
     Some(format!("place {k} of {name} must hold {}, not {}", due[k], found[k]))
@@ -108,6 +161,19 @@ mod tests {
             let mut after = before.clone();
             change(&mut after);
             assert!(differing_genes(&before, &after).is_some());
+        }
+        let before = views([128, 1_536, 129, 130], &mut Rng::new(5));
+        assert_eq!(differing_views(&before, &before.clone()), None);
+        let change: [fn(&mut Views); 4] = [
+            |views| views.path[127] ^= 1,
+            |views| views.moves[1_535] ^= 1 << 63,
+            |views| views.kept[128] ^= 1,
+            |views| views.ranks[129] ^= 1,
+        ];
+        for change in change {
+            let mut after = before.clone();
+            change(&mut after);
+            assert!(differing_views(&before, &after).is_some());
         }
     }
 }

@@ -33,6 +33,7 @@ pub mod sheet;
 pub mod sheet_check;
 pub mod speed;
 pub mod spread;
+pub mod step_check;
 pub mod store;
 pub mod tally;
 pub mod text;

@@ -10,12 +10,12 @@ use compare::check::{self, Report};
 use compare::generate::{self, Class};
 use compare::modes::{answer, Mode};
 use compare::{
-    board, damage, decode_check, differential, improve_check, intake, lines, program, sheet_check, speed, store, text,
-    time_check,
+    board, damage, decode_check, differential, improve_check, intake, lines, program, sheet_check, speed, step_check,
+    store, text, time_check,
 };
 
 /// Every way to call the tools; the first one stands for all modes.
-const USAGES: [&str; 18] = [
+const USAGES: [&str; 19] = [
     "MODE [INPUT [LINES]]",
     "to-text [INPUT]",
     "from-text [TEXT]",
@@ -28,6 +28,7 @@ const USAGES: [&str; 18] = [
     "decode-check [N]",
     "sheet-check [N]",
     "improve-check [N]",
+    "step-check [N]",
     "program-check [N] PROGRAM...",
     "differential [N] PROGRAM...",
     "speed [WORK... | --only SIDE WORK PLAN TIMES]",
@@ -45,7 +46,7 @@ const INPUTS: u64 = 10_000;
 /// How many inputs `intake-check` runs unless it is told.
 const INTAKES: u64 = 100_000;
 
-/// How many inputs `time-check`, `decode-check` and `improve-check` run unless they are told.
+/// How many inputs `time-check`, `decode-check`, `improve-check` and `step-check` run unless they are told.
 const LIBRARY_INPUTS: u64 = 20_000;
 
 /// How many sheets `sheet-check` runs unless it is told.
@@ -121,6 +122,7 @@ fn dispatch(arguments: &[OsString]) -> Result<Said, String> {
         ["improve-check", rest @ ..] if rest.len() < 2 => {
             counted(rest, LIBRARY_INPUTS, |n| improve_check::CHECK.run(n))
         }
+        ["step-check", rest @ ..] if rest.len() < 2 => counted(rest, LIBRARY_INPUTS, |n| step_check::CHECK.run(n)),
         ["program-check", rest @ ..] if names_program(rest) => with_program(&arguments[1..], RUNS, program::check),
         ["differential", rest @ ..] if names_program(rest) => with_program(&arguments[1..], ALL, differential::check),
         ["speed", "--only", side, work, plan, times] => {

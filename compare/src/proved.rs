@@ -1,7 +1,7 @@
 //! The proved library's calls, as the checks make them, through the wrapper that programs in Rust have (`lavkkesto`).
 //! `Calls` is what the checks ask of it, so that their own tests can put an imitation in its place.
 
-pub use lavkkesto::{Answer, Checked, Ended, CELLS, MACHINES, PLACES, STRETCH};
+pub use lavkkesto::{Answer, Checked, Ended, Looked, CELLS, MACHINES, MOVE_CELLS, PLACES, RANK, ROW, STRETCH};
 
 use crate::published::Decoder;
 
@@ -36,6 +36,15 @@ pub struct Genes {
     pub machines: Vec<usize>,
 }
 
+/// The four buffers that a step of the search is shown in.
+#[derive(Clone, Debug, PartialEq, Eq)]
+pub struct Views {
+    pub path: Vec<usize>,
+    pub moves: Vec<usize>,
+    pub kept: Vec<usize>,
+    pub ranks: Vec<u64>,
+}
+
 /// The library's calls.
 pub trait Calls: Sync {
     /// Times the given lines.
@@ -54,6 +63,9 @@ pub trait Calls: Sync {
 
     /// Improves; the cells are work space.
     fn improve(&self, input: &[u8], cells: &mut [usize], genes: &mut Genes) -> Ended;
+
+    /// Shows one step of the search on the given lines.
+    fn look(&self, input: &[u8], lines: &Given, views: &mut Views) -> Looked;
 }
 
 /// The linked library.
@@ -102,5 +114,10 @@ impl Calls for Library {
 
     fn improve(&self, input: &[u8], cells: &mut [usize], genes: &mut Genes) -> Ended {
         lavkkesto::improve(input, cells, &mut genes.tasks, &mut genes.machines)
+    }
+
+    fn look(&self, input: &[u8], lines: &Given, views: &mut Views) -> Looked {
+        let Views { path, moves, kept, ranks } = views;
+        lavkkesto::look(input, &lines.cells, &lines.lens, lavkkesto::Views { path, moves, kept, ranks })
     }
 }

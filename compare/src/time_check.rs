@@ -201,7 +201,7 @@ fn hold(
     }
 }
 
-fn tell(run: &mut Run, mut what: String, input: &[u8], lines: Option<&Given>) {
+pub(crate) fn tell(run: &mut Run, mut what: String, input: &[u8], lines: Option<&Given>) {
     let mut files = vec![("input", input.to_vec())];
     match lines.map(as_words) {
         Some(Some(words)) => files.push(("lines", words)),
@@ -214,7 +214,7 @@ fn tell(run: &mut Run, mut what: String, input: &[u8], lines: Option<&Given>) {
 // ------------------------------------------------------------------------------------------------------ lines
 
 /// A sequence of all activities dealt over the machines, sometimes over one alone.
-fn dealt(sequence: Vec<usize>, plan: &Plan, rng: &mut Rng) -> Lines {
+pub(crate) fn dealt(sequence: Vec<usize>, plan: &Plan, rng: &mut Rng) -> Lines {
     let mut lines = vec![Vec::new(); plan.transports.len()];
     let one = rng.chance(10).then(|| rng.index(lines.len()));
     let assigned = rng.chance(50);
@@ -231,7 +231,7 @@ fn dealt(sequence: Vec<usize>, plan: &Plan, rng: &mut Rng) -> Lines {
 }
 
 /// One to three small changes: two neighbours swapped, or one moved to some position of some line.
-fn changed(mut lines: Lines, rng: &mut Rng) -> Lines {
+pub(crate) fn changed(mut lines: Lines, rng: &mut Rng) -> Lines {
     for _ in 0..rng.within(1, 3) {
         let filled: Vec<usize> = (0..lines.len()).filter(|&machine| !lines[machine].is_empty()).collect();
         let machine = rng.pick(&filled);
@@ -249,7 +249,7 @@ fn changed(mut lines: Lines, rng: &mut Rng) -> Lines {
 }
 
 /// Lines as the calls take them; cells outside the lines hold anything, activities among it.
-fn given(lines: &Lines, rng: &mut Rng) -> Given {
+pub(crate) fn given(lines: &Lines, rng: &mut Rng) -> Given {
     let cells = enough(CELLS, rng);
     let mut given = Given { cells: (0..cells).map(|_| any_cell(rng)).collect(), lens: [0; MACHINES] };
     for (machine, line) in lines.iter().enumerate() {
@@ -268,7 +268,7 @@ fn any_cell(rng: &mut Rng) -> usize {
 }
 
 /// Breaks number 7 in one way that it names, and says which; the lines were good.
-fn break_lines(given: &mut Given, plan: &Plan, rng: &mut Rng) -> &'static str {
+pub(crate) fn break_lines(given: &mut Given, plan: &Plan, rng: &mut Rng) -> &'static str {
     let (n, machines) = (plan.activities.len(), plan.transports.len());
     let filled: Vec<usize> = (0..machines).filter(|&machine| given.lens[machine] > 0).collect();
     let machine = rng.pick(&filled);

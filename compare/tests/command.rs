@@ -42,7 +42,7 @@ fn said<S: AsRef<OsStr> + std::fmt::Debug>(arguments: &[S], input: &[u8]) -> Str
 #[test]
 fn bad_arguments_are_one_line_and_2() {
     let here = env!("CARGO_MANIFEST_DIR");
-    let bad: [&[&str]; 68] = [
+    let bad: [&[&str]; 70] = [
         &[],
         &["no-such-mode"],
         &[""],
@@ -102,6 +102,8 @@ fn bad_arguments_are_one_line_and_2() {
         &["differential", "no/such/program"],
         &["improve-check", "x"],
         &["improve-check", "1", "2"],
+        &["step-check", "x"],
+        &["step-check", "1", "2"],
         &["speed", "x"],
         &["speed", "--only", "rust", "time", "ft06"],
         &["speed", "--only", "rust", "time", "ft06", "x"],
@@ -228,7 +230,7 @@ fn without_the_library_it_is_one_line_and_2() {
     if lavkkesto::lacking().next().is_none() {
         return;
     }
-    let checks = ["time-check", "decode-check", "sheet-check", "improve-check"];
+    let checks = ["time-check", "decode-check", "sheet-check", "improve-check", "step-check"];
     for tool in checks.into_iter().chain(["speed"]) {
         is_one_line_and_2(&[tool], &[]);
     }

@@ -11,6 +11,9 @@ static size_t cells[LAVKKESTO_CELLS], lens[LAVKKESTO_MACHINES];
 /* Room for the rows of a sheet, as most calls take it. */
 static size_t activities[LAVKKESTO_PLACES], machines[LAVKKESTO_PLACES], tasks[LAVKKESTO_PLACES];
 static uint64_t starts[LAVKKESTO_PLACES], ends[LAVKKESTO_PLACES], setups[LAVKKESTO_PLACES];
+/* Room for a step of the search. */
+static size_t path[LAVKKESTO_PLACES], moves[LAVKKESTO_MOVE_CELLS], kept[LAVKKESTO_PLACES];
+static uint64_t ranks[LAVKKESTO_PLACES];
 #define PLACES LAVKKESTO_PLACES
 #define ROWS activities, PLACES, machines, PLACES, starts, PLACES, ends, PLACES, setups, PLACES
 
@@ -30,6 +33,22 @@ static void show(const char *call, const uint64_t code[4]) {
         printf("%zu %zu %" PRIu64 " %" PRIu64 " %" PRIu64 "\n", activities[k], machines[k], starts[k], ends[k], setups[k]);
 }
 
+static void show_step(const uint64_t code[7]) {
+    if (code[0] != 0) {
+        printf("look: refused %" PRIu64 " %" PRIu64 "\n", code[0], code[1]);
+        return;
+    }
+    printf("look: %" PRIu64 " on the path, %" PRIu64 " block moves, fitness %g\n", code[2], code[3], fitness(code[6]));
+    printf("path");
+    for (size_t k = 0; k < code[2]; k++) printf(" %zu", path[k]);
+    for (size_t k = 0; k < code[4] + code[5]; k++) {
+        printf("\nkept");
+        for (size_t number = 0; number < 6; number++) printf(" %zu", kept[6 * k + number]);
+        printf(" rank %" PRIu64 " %" PRIu64, ranks[2 * k], ranks[2 * k + 1]);
+    }
+    printf("\n");
+}
+
 static void show_check(const uint64_t code[3]) {
     if (code[0] != 0)
         printf("check: refused %" PRIu64 " %" PRIu64 "\n", code[0], code[2]);
@@ -42,7 +61,7 @@ static void show_check(const uint64_t code[3]) {
 }
 
 int main(int count, char **words) {
-    uint64_t code[4], told[3];
+    uint64_t code[4], told[3], seen[7];
     FILE *file = count > 1 ? fopen(words[1], "rb") : NULL;
     if (file == NULL) return 2;
     size_t length = fread(plan, 1, sizeof plan, file);
@@ -54,6 +73,9 @@ int main(int count, char **words) {
     lavkkesto_time(plan, length, cells, LAVKKESTO_CELLS, lens, ROWS, code);
     show("time", code);
     printf("time_again: %" PRIu64 "\n", lavkkesto_time_again(plan, length, cells, LAVKKESTO_CELLS, lens, 3));
+    lavkkesto_look(plan, length, cells, LAVKKESTO_CELLS, lens, path, PLACES, moves, LAVKKESTO_MOVE_CELLS, kept, PLACES, ranks,
+                   PLACES, seen);
+    show_step(seen);
 
     lavkkesto_time_order(plan, length, ROWS, code);
     show("time_order", code);

@@ -1,6 +1,7 @@
 //! Every call of the library on Plan S, whose file is named as the argument.
 
-use lavkkesto::{Answer, Checked, Ended, Rows, CELLS, MACHINES, PLACES, STRETCH};
+use lavkkesto::{Answer, Checked, Ended, Looked, Rows, Views};
+use lavkkesto::{CELLS, MACHINES, MOVE_CELLS, PLACES, RANK, ROW, STRETCH};
 
 /// Room for the rows of a sheet.
 struct Sheet {
@@ -47,6 +48,40 @@ fn show_check(checked: Checked) {
     }
 }
 
+/// Room for a step of the search.
+struct Step {
+    path: [usize; PLACES],
+    moves: [usize; MOVE_CELLS],
+    kept: [usize; PLACES],
+    ranks: [u64; PLACES],
+}
+
+impl Step {
+    fn lent(&mut self) -> Views<'_> {
+        let Step { path, moves, kept, ranks } = self;
+        Views { path, moves, kept, ranks }
+    }
+
+    fn show(&self, looked: Looked) {
+        match looked {
+            Looked::Seen { path, moves, blocks, others, fitness } => {
+                println!("look: {path} on the path, {moves} block moves, fitness {}", f64::from_bits(fitness));
+                println!("path{}", spaced(&self.path[..path]));
+                for k in 0..blocks + others {
+                    let (moved, rank) = (&self.kept[ROW * k..][..ROW], &self.ranks[RANK * k..][..RANK]);
+                    println!("kept{} rank{}", spaced(moved), spaced(rank));
+                }
+            }
+            Looked::Refused(refused) => println!("look: {refused}"),
+            Looked::Unknown(numbers) => println!("look: {numbers:?}, from another archive"),
+        }
+    }
+}
+
+fn spaced<T: std::fmt::Display>(numbers: &[T]) -> String {
+    numbers.iter().map(|number| format!(" {number}")).collect()
+}
+
 fn main() -> std::io::Result<()> {
     let plan = std::fs::read(std::env::args_os().nth(1).unwrap_or_default())?;
     let mut sheet = Sheet::new();
@@ -60,6 +95,9 @@ fn main() -> std::io::Result<()> {
     let answer = lavkkesto::time(&plan, &cells, &lens, sheet.lent());
     sheet.show("time", answer);
     println!("time_again: {}", lavkkesto::time_again(&plan, &cells, &lens, 3));
+    let mut step = Step { path: [0; PLACES], moves: [0; MOVE_CELLS], kept: [0; PLACES], ranks: [0; PLACES] };
+    let looked = lavkkesto::look(&plan, &cells, &lens, step.lent());
+    step.show(looked);
 
     let calls = [lavkkesto::time_order, lavkkesto::in_order, lavkkesto::active, lavkkesto::decode];
     for (name, call) in ["time_order", "in_order", "active", "decode"].into_iter().zip(calls) {

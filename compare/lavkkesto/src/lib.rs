@@ -16,6 +16,11 @@ pub const STRETCH: usize = 128;
 /// The fewest cells that may be lent for lines.
 pub const CELLS: usize = MACHINES * STRETCH;
 
+/// The numbers of one move, the numbers of its rank, and the fewest cells for all block moves of a step.
+pub const ROW: usize = 6;
+pub const RANK: usize = 2;
+pub const MOVE_CELLS: usize = 256 * ROW;
+
 /// A number of document 01's table, 1 to 8, and its place: a byte of the plan, or 0.
 #[derive(Clone, Copy, Debug, PartialEq, Eq)]
 pub struct Refused {
@@ -36,6 +41,15 @@ pub struct Rows<'a> {
     pub starts: &'a mut [u64],
     pub ends: &'a mut [u64],
     pub setups: &'a mut [u64],
+}
+
+/// The four buffers that a step of the search is shown in: its path; each block move; each kept move, block moves first;
+/// each kept move's rank. Places after the last number are left as they are.
+pub struct Views<'a> {
+    pub path: &'a mut [usize],
+    pub moves: &'a mut [usize],
+    pub kept: &'a mut [usize],
+    pub ranks: &'a mut [u64],
 }
 
 /// Of timing and the decoders.
@@ -110,6 +124,35 @@ impl Ended {
             ([number @ 13..=14, 0, fitness], _) => Ended::Outcome { number, fitness: Some(fitness) },
             ([1..=6, _, 0], Some(refused)) => Ended::Refused(refused),
             _ => Ended::Unknown(told),
+        }
+    }
+}
+
+/// Of a step shown.
+#[derive(Clone, Copy, Debug, PartialEq, Eq)]
+pub enum Looked {
+    /// How many activities of the path, block moves, kept block moves and kept reassignments were written, and the bits of
+    /// the line fitness.
+    Seen { path: usize, moves: usize, blocks: usize, others: usize, fitness: u64 },
+    /// Nothing was written.
+    Refused(Refused),
+    /// Numbers that this wrapper does not know.
+    Unknown([u64; 7]),
+}
+
+impl Looked {
+    /// Number, place and five times 0 for a refusal; else 0, 0, the four counts, fitness bits. There is room for so many
+    /// activities, block moves and kept moves.
+    fn of(told: [u64; 7], room: [usize; 3]) -> Looked {
+        let [number, place, counts @ .., fitness] = told;
+        match (told, counts.map(usize::try_from), refused(number, place)) {
+            ([0, 0, ..], [Ok(path), Ok(moves), Ok(blocks), Ok(others)], _)
+                if path <= room[0] && moves <= room[1] && blocks.saturating_add(others) <= room[2] =>
+            {
+                Looked::Seen { path, moves, blocks, others, fitness }
+            }
+            ([_, _, 0, 0, 0, 0, 0], _, Some(refused)) => Looked::Refused(refused),
+            _ => Looked::Unknown(told),
         }
     }
 }
@@ -209,6 +252,32 @@ pub fn improve(plan: &[u8], cells: &mut [usize], tasks: &mut [usize], machines: 
     Ended::of(code)
 }
 
+/// Shows one step of the search on lines, which are given as to `time`: nothing is moved.
+pub fn look(plan: &[u8], cells: &[usize], lens: &[usize; MACHINES], views: Views<'_>) -> Looked {
+    let Views { path, moves, kept, ranks } = views;
+    let mut code = [u64::MAX; 7];
+    // SAFETY: as above.
+    unsafe {
+        raw::lavkkesto_look(
+            plan.as_ptr(),
+            plan.len(),
+            cells.as_ptr(),
+            cells.len(),
+            lens,
+            path.as_mut_ptr(),
+            path.len(),
+            moves.as_mut_ptr(),
+            moves.len(),
+            kept.as_mut_ptr(),
+            kept.len(),
+            ranks.as_mut_ptr(),
+            ranks.len(),
+            &mut code,
+        );
+    }
+    Looked::of(code, [path.len(), moves.len() / ROW, (kept.len() / ROW).min(ranks.len() / RANK)])
+}
+
 /// For measuring: takes the plan in once and times the lines so often; the makespan, 0 where there is none.
 pub fn time_again(plan: &[u8], cells: &[usize], lens: &[usize; MACHINES], times: usize) -> u64 {
     // SAFETY: as above; nothing is written.
@@ -234,6 +303,9 @@ mod tests {
         assert_eq!(Ended::of([12, 0, 0]), Ended::Outcome { number: 12, fitness: None });
         assert_eq!(Ended::of([14, 0, 0]), Ended::Outcome { number: 14, fitness: Some(0) });
         assert_eq!(Ended::of([6, 0, 0]), Ended::Refused(refused(6, 0)));
+        let seen = Looked::Seen { path: 128, moves: 254, blocks: 3, others: 2, fitness: 7 };
+        assert_eq!(Looked::of([0, 0, 128, 254, 3, 2, 7], [128, 254, 5]), seen);
+        assert_eq!(Looked::of([7, 0, 0, 0, 0, 0, 0], [0; 3]), Looked::Refused(refused(7, 0)));
     }
 
     #[test]
@@ -246,6 +318,12 @@ mod tests {
         }
         for told in [[0, 0, 0], [7, 0, 0], [10, 1, 0], [11, 0, 1], [14, 1, 0], [15, 0, 0], [u64::MAX; 3]] {
             assert_eq!(Ended::of(told), Ended::Unknown(told));
+        }
+        let room = [128, 256, 21];
+        let too_many = [[0, 0, 129, 0, 0, 0, 7], [0, 0, 1, 257, 0, 0, 7], [0, 0, 1, 1, 11, 11, 7]];
+        let mixed = [[0, 1, 1, 0, 0, 0, 7], [9, 0, 0, 0, 0, 0, 0], [1, 0, 0, 0, 0, 1, 0], [1, 0, 0, 0, 0, 0, 1]];
+        for told in too_many.into_iter().chain(mixed).chain([[u64::MAX; 7], [0, 0, 1, 1, 1, u64::MAX, 7]]) {
+            assert_eq!(Looked::of(told, room), Looked::Unknown(told));
         }
     }
 }

@@ -90,4 +90,14 @@ calls! {
         machines: *mut usize, machines_len: usize,
         code: *mut [u64; 3],
     );
+    fn lavkkesto_look(
+        plan: *const u8, plan_len: usize,
+        cells: *const usize, cells_len: usize,
+        lens: *const [usize; MACHINES],
+        path: *mut usize, path_len: usize,
+        moves: *mut usize, moves_len: usize,
+        kept: *mut usize, kept_len: usize,
+        ranks: *mut u64, ranks_len: usize,
+        code: *mut [u64; 7],
+    );
 }
