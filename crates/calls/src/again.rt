@@ -37,7 +37,7 @@ fn repeat_in(
             s,
             z,
             table,
-            &ways,
+            ways,
             cells,
             lens,
             before,

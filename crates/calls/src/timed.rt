@@ -117,7 +117,7 @@ fn time_in(
         s,
         z,
         table,
-        &ways,
+        ways,
         cells,
         lens,
         before,

@@ -5,7 +5,6 @@ mod steps;
 pub mod survey;
 
 use ranking::Three;
-pub use saving::save;
 pub use step::best_move;
 pub use step::make_move;
 pub use steps::keep_best;

@@ -1,4 +1,4 @@
-// What a step looks at: the links of its lines, the critical path, the tails, and from them the moves to try.
+// What a step looks at: the critical path, the tails, and from them the moves to try.
 use crate::Moves;
 use plan::Layout;
 ghost use mathlib.Core.Path.{_≡_};
@@ -18,7 +18,7 @@ ghost use Rattle.search.specs.Step.{placingOf, blocksBy, othersBy};
 ghost use Rattle.search.specs.Asked.{Lined, Space};
 ghost use Rattle.trial.specs.Trial.{Ready, AllAllowed};
 
-// Writes the links of the lines, the path from the place answered on, and the tails.
+// Writes the path from the place answered on, and the tails. The links are those of the lines.
 pub fn survey(
     s: &[u8],
     z: Layout,
@@ -29,27 +29,24 @@ pub fn survey(
     order: &[usize],
     starts: &[u64],
     ends: &[u64],
-    before: &mut [usize],
-    after: &mut [usize],
-    machines: &mut [usize],
-    places: &mut [usize],
+    before: &[usize],
+    after: &[usize],
+    machines: &[usize],
+    places: &[usize],
     path: &mut [usize],
     tail: &mut [u64],
 ) -> usize
     requires { ⌜ Ready (now s) z (now table) (now ways) × Lined (z .activities) (z .machines) (now cells) lens × Timed (problemOf (words (now s)) z) (linesIn (now cells) lens) (now order) (now starts) (now ends) ⌝ }
-    requires { ⌜ (length (now before) ≡ z .activities) × (length (now after) ≡ z .activities) × (length (now machines) ≡ z .activities) × (length (now places) ≡ z .activities) × (length (now path) ≡ z .activities) × (length (now tail) ≡ z .activities) ⌝ }
-    ensures linked { λ _. ⌜ LinesHeld (z .activities) (linesIn (now (cells .entry)) lens) (linksOf (now (before .exit)) (now (after .exit)) (now (machines .exit)) (now (places .exit))) ⌝ }
+    requires { ⌜ LinesHeld (z .activities) (linesIn (now cells) lens) (linksOf (now before) (now after) (now machines) (now places)) × (length (now before) ≡ z .activities) × (length (now after) ≡ z .activities) × (length (now machines) ≡ z .activities) × (length (now places) ≡ z .activities) × (length (now path) ≡ z .activities) × (length (now tail) ≡ z .activities) ⌝ }
     ensures walked { λ r. ⌜ (drop r (now (path .exit)) ≡ criticalPath (problemOf (words (now (s .entry))) z) (linesIn (now (cells .entry)) lens) (placingOf (problemOf (words (now (s .entry))) z) (linesIn (now (cells .entry)) lens))) × (r < z .activities) ⌝ }
     ensures tailed { λ _. ⌜ now (tail .exit) ≡ tails (problemOf (words (now (s .entry))) z) (linesIn (now (cells .entry)) lens) (placingOf (problemOf (words (now (s .entry))) z) (linesIn (now (cells .entry)) lens)) ⌝ }
 {
-    let n = z.activities;
-    lines::link_lines(n, cells, lens, before, after, machines, places);
     let at = path::critical_path(table, before, machines, ways, order, starts, ends, path);
     path::tails(table, after, order, starts, ends, tail);
     at
 }
 
-// The moves to try on timed lines. `choices` says whether any activity has two candidates. The links of the lines are written; path, tail and
+// The moves to try on timed lines. `choices` says whether any activity has two candidates. The links are those of the lines; path, tail and
 // heads are work space.
 pub fn find_moves(
     s: &[u8],
@@ -62,19 +59,18 @@ pub fn find_moves(
     order: &[usize],
     starts: &[u64],
     ends: &[u64],
-    before: &mut [usize],
-    after: &mut [usize],
-    machines: &mut [usize],
-    places: &mut [usize],
+    before: &[usize],
+    after: &[usize],
+    machines: &[usize],
+    places: &[usize],
     path: &mut [usize],
     tail: &mut [u64],
     heads: &mut [u64],
 ) -> Moves
     requires { ⌜ Ready (now s) z (now table) (now ways) × Lined (z .activities) (z .machines) (now cells) lens × Timed (problemOf (words (now s)) z) (linesIn (now cells) lens) (now order) (now starts) (now ends) × (choices ≡ flexible (problemOf (words (now s)) z)) ⌝ }
-    requires { ⌜ Space (z .activities) (now before) (now after) (now machines) (now places) (now path) (now tail) (now heads) ⌝ }
+    requires { ⌜ LinesHeld (z .activities) (linesIn (now cells) lens) (linksOf (now before) (now after) (now machines) (now places)) × Space (z .activities) (now before) (now after) (now machines) (now places) (now path) (now tail) (now heads) ⌝ }
     ensures blocks { λ r. ⌜ (ranked (r .blocks) ≡ blocksBy (problemOf (words (now (s .entry))) z) (linesIn (now (cells .entry)) lens) (placingOf (problemOf (words (now (s .entry))) z) (linesIn (now (cells .entry)) lens))) × (r .blocks .count ≤ 3) ⌝ }
     ensures others { λ r. ⌜ (ranked (r .others) ≡ othersBy (problemOf (words (now (s .entry))) z) (linesIn (now (cells .entry)) lens) (placingOf (problemOf (words (now (s .entry))) z) (linesIn (now (cells .entry)) lens))) × (r .others .count ≤ 3) ⌝ }
-    ensures linked { λ _. ⌜ LinesHeld (z .activities) (linesIn (now (cells .entry)) lens) (linksOf (now (before .exit)) (now (after .exit)) (now (machines .exit)) (now (places .exit))) ⌝ }
     ensures allowed { λ r. ⌜ AllAllowed (z .machines) (linesIn (now (cells .entry)) lens) (r .blocks) × AllAllowed (z .machines) (linesIn (now (cells .entry)) lens) (r .others) ⌝ }
 {
     let at = survey(

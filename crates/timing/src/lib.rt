@@ -169,7 +169,8 @@ fn order_and_place(
     )
 }
 
-// Times lines whose links are known: false where they contradict; else the timing order, and each activity's start and end.
+// Times lines whose links are known: false where they contradict; else the timing order, and each activity's start and end. Counts and stack
+// are work space.
 pub fn time_linked(
     s: &[u8],
     z: Layout,
@@ -180,19 +181,18 @@ pub fn time_linked(
     before: &[usize],
     after: &[usize],
     machines: &[usize],
+    counts: &mut [usize],
+    stack: &mut [usize],
     order: &mut [usize],
     starts: &mut [u64],
     ends: &mut [u64],
 ) -> bool
     requires { ⌜ Placed z × Accepted (problemOf (words (now s)) z) (genesOf (words (now s)) z) × Tabled (problemOf (words (now s)) z) (now table) × (now ways ≡ transportsOf (problemOf (words (now s)) z)) ⌝ }
     requires { ⌜ WellFormed (z .activities) (z .machines) (linesIn (now cells) (now lens)) × Neighbours (z .activities) (linesIn (now cells) (now lens)) (now before) (now after) × Seated (z .activities) (linesIn (now cells) (now lens)) (now before) (now machines) ⌝ }
-    requires { ⌜ (length (now order) ≡ z .activities) × (length (now starts) ≡ z .activities) × (length (now ends) ≡ z .activities) ⌝ }
+    requires { ⌜ Space (z .activities) (now counts) (now stack) (now order) × (length (now starts) ≡ z .activities) × (length (now ends) ≡ z .activities) ⌝ }
     ensures answer { λ r. ⌜ r ≡ not (contradicts (problemOf (words (now (s .entry))) z) (linesIn (now (cells .entry)) (now (lens .entry)))) ⌝ }
     ensures timed { λ r. ⌜ (r ≡ true → Timed (problemOf (words (now (s .entry))) z) (linesIn (now (cells .entry)) (now (lens .entry))) (now (order .exit)) (now (starts .exit)) (now (ends .exit))) ⌝ }
 {
-    let n = z.activities;
-    let mut counts = [0usize; 128];
-    let mut stack = [0usize; 128];
     let taken = order_and_place(
         s,
         z,
@@ -203,13 +203,13 @@ pub fn time_linked(
         before,
         after,
         machines,
-        &mut counts[..n],
-        &mut stack,
+        counts,
+        stack,
         order,
         starts,
         ends,
     );
-    n <= taken
+    z.activities <= taken
 }
 
 // Times lines: false where they contradict; else the timing order, and each activity's start and end. Of each activity is written, too, who
@@ -218,7 +218,7 @@ pub fn time_sequences(
     s: &[u8],
     z: Layout,
     table: &[usize],
-    ways: &[[u32; 16]; 16],
+    ways: [[u32; 16]; 16],
     cells: &[usize],
     lens: [usize; 16],
     before: &mut [usize],
@@ -229,23 +229,28 @@ pub fn time_sequences(
     starts: &mut [u64],
     ends: &mut [u64],
 ) -> bool
-    requires { ⌜ Placed z × Accepted (problemOf (words (now s)) z) (genesOf (words (now s)) z) × Tabled (problemOf (words (now s)) z) (now table) × (now ways ≡ transportsOf (problemOf (words (now s)) z)) ⌝ }
+    requires { ⌜ Placed z × Accepted (problemOf (words (now s)) z) (genesOf (words (now s)) z) × Tabled (problemOf (words (now s)) z) (now table) × (ways ≡ transportsOf (problemOf (words (now s)) z)) ⌝ }
     requires { ⌜ (length (now cells) ≡ 2048) × WellFormed (z .activities) (z .machines) (linesIn (now cells) lens) × Rooms (z .activities) (now before) (now after) (now machines) (now places) (now order) (now starts) (now ends) ⌝ }
     ensures answer { λ r. ⌜ r ≡ not (contradicts (problemOf (words (now (s .entry))) z) (linesIn (now (cells .entry)) lens)) ⌝ }
     ensures linked { λ _. ⌜ LinesHeld (z .activities) (linesIn (now (cells .entry)) lens) (linksOf (now (before .exit)) (now (after .exit)) (now (machines .exit)) (now (places .exit))) ⌝ }
     ensures timed { λ r. ⌜ (r ≡ true → Timed (problemOf (words (now (s .entry))) z) (linesIn (now (cells .entry)) lens) (now (order .exit)) (now (starts .exit)) (now (ends .exit))) ⌝ }
 {
-    lines::link_lines(z.activities, cells, lens, before, after, machines, places);
+    let n = z.activities;
+    let mut counts = [0usize; 128];
+    let mut stack = [0usize; 128];
+    lines::link_lines(n, cells, lens, before, after, machines, places);
     time_linked(
         s,
         z,
         table,
-        ways,
+        &ways,
         cells,
         &lens,
         before,
         after,
         machines,
+        &mut counts[..n],
+        &mut stack,
         order,
         starts,
         ends,

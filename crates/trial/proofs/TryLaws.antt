@@ -75,11 +75,13 @@ kept-kept r ho hs he = record { length-order = ho ∙ r .length-order; length-st
 
 -- those before k are tried: what is left, after what is held, gives what all of them give; the lines are the first ones
 pub record Trying (p : Problem) (n : ℕ) (lines : Lines) (lens : List ℕ) (forbid : Move → Bool) (best : Float) (three : Three) (b₀ b : Best) (k : ℕ)
-    (cells before after machines places order starts ends taken begun done : List ℕ) : Type 0 where
+    (cells before after machines places counts stack order starts ends taken begun done : List ℕ) : Type 0 where
   pub same : linesIn cells lens ≡ lines
   pub long : length cells ≡ 2048
   pub rooms : Rooms n before after machines places order starts ends
   pub linked : LinesHeld n lines (linksOf before after machines places)
+  pub counted : length counts ≡ n
+  pub stacked : length stack ≡ n
   pub kept : Kept n taken begun done
   pub holding : Holding p lines b taken begun done
   pub rest : triedAll p lines forbid best (movesOf (drop k (ranked three))) b ≡ triedAll p lines forbid best (movesOf (ranked three)) b₀

@@ -155,12 +155,14 @@ fn time_move(
     after: &mut [usize],
     machines: &mut [usize],
     places: &mut [usize],
+    counts: &mut [usize],
+    stack: &mut [usize],
     order: &mut [usize],
     starts: &mut [u64],
     ends: &mut [u64],
 ) -> bool
     requires { ⌜ Ready (now s) z (now table) (now ways) × (length (now cells) ≡ 2048) × WellFormed (z .activities) (z .machines) (linesIn (now cells) lens) × Allowed (z .machines) (linesIn (now cells) lens) m ⌝ }
-    requires { ⌜ Rooms (z .activities) (now before) (now after) (now machines) (now places) (now order) (now starts) (now ends) × LinesHeld (z .activities) (linesIn (now cells) lens) (linksOf (now before) (now after) (now machines) (now places)) ⌝ }
+    requires { ⌜ Rooms (z .activities) (now before) (now after) (now machines) (now places) (now order) (now starts) (now ends) × LinesHeld (z .activities) (linesIn (now cells) lens) (linksOf (now before) (now after) (now machines) (now places)) × (length (now counts) ≡ z .activities) × (length (now stack) ≡ z .activities) ⌝ }
     ensures answer { λ r. ⌜ r ≡ not (contradicts (problemOf (words (now (s .entry))) z) (applied m (linesIn (now (cells .entry)) lens))) ⌝ }
     ensures timed { λ r. ⌜ (r ≡ true → Timed (problemOf (words (now (s .entry))) z) (applied m (linesIn (now (cells .entry)) lens)) (now (order .exit)) (now (starts .exit)) (now (ends .exit))) ⌝ }
     ensures lines { λ _. ⌜ linesIn (now (cells .exit)) lens ≡ linesIn (now (cells .entry)) lens ⌝ }
@@ -179,6 +181,8 @@ fn time_move(
         before,
         after,
         machines,
+        counts,
+        stack,
         order,
         starts,
         ends,
@@ -205,6 +209,8 @@ fn try_move(
     after: &mut [usize],
     machines: &mut [usize],
     places: &mut [usize],
+    counts: &mut [usize],
+    stack: &mut [usize],
     order: &mut [usize],
     starts: &mut [u64],
     ends: &mut [u64],
@@ -213,7 +219,7 @@ fn try_move(
     done: &mut [u64],
 ) -> Best
     requires { ⌜ Ready (now s) z (now table) (now ways) × (length (now cells) ≡ 2048) × WellFormed (z .activities) (z .machines) (linesIn (now cells) lens) × Allowed (z .machines) (linesIn (now cells) lens) m ⌝ }
-    requires { ⌜ Rooms (z .activities) (now before) (now after) (now machines) (now places) (now order) (now starts) (now ends) × LinesHeld (z .activities) (linesIn (now cells) lens) (linksOf (now before) (now after) (now machines) (now places)) ⌝ }
+    requires { ⌜ Rooms (z .activities) (now before) (now after) (now machines) (now places) (now order) (now starts) (now ends) × LinesHeld (z .activities) (linesIn (now cells) lens) (linksOf (now before) (now after) (now machines) (now places)) × (length (now counts) ≡ z .activities) × (length (now stack) ≡ z .activities) ⌝ }
     requires { ⌜ Kept (z .activities) (now taken) (now begun) (now done) × Holding (problemOf (words (now s)) z) (linesIn (now cells) lens) held (now taken) (now begun) (now done) ⌝ }
     ensures answer { λ r. ⌜ r ≡ tried (problemOf (words (now (s .entry))) z) (linesIn (now (cells .entry)) lens) forbidden best m held ⌝ }
     ensures holding { λ r. ⌜ Holding (problemOf (words (now (s .entry))) z) (linesIn (now (cells .entry)) lens) r (now (taken .exit)) (now (begun .exit)) (now (done .exit)) ⌝ }
@@ -232,6 +238,8 @@ fn try_move(
         after,
         machines,
         places,
+        counts,
+        stack,
         order,
         starts,
         ends,
@@ -255,7 +263,7 @@ fn try_move(
 }
 
 // Tries up to three moves in turn, after what is held. `best` is the best ever. The timing of the one answered is kept in the last three
-// buffers; the three before them are work space. The lines stay as they are, and so do their links.
+// buffers; the five before them are work space. The lines stay as they are, and so do their links.
 pub fn try_three(
     s: &[u8],
     z: Layout,
@@ -273,6 +281,8 @@ pub fn try_three(
     after: &mut [usize],
     machines: &mut [usize],
     places: &mut [usize],
+    counts: &mut [usize],
+    stack: &mut [usize],
     order: &mut [usize],
     starts: &mut [u64],
     ends: &mut [u64],
@@ -281,7 +291,7 @@ pub fn try_three(
     done: &mut [u64],
 ) -> Best
     requires { ⌜ Ready (now s) z (now table) (now ways) × (length (now cells) ≡ 2048) × WellFormed (z .activities) (z .machines) (linesIn (now cells) lens) × AllAllowed (z .machines) (linesIn (now cells) lens) three ⌝ }
-    requires { ⌜ Rooms (z .activities) (now before) (now after) (now machines) (now places) (now order) (now starts) (now ends) × LinesHeld (z .activities) (linesIn (now cells) lens) (linksOf (now before) (now after) (now machines) (now places)) ⌝ }
+    requires { ⌜ Rooms (z .activities) (now before) (now after) (now machines) (now places) (now order) (now starts) (now ends) × LinesHeld (z .activities) (linesIn (now cells) lens) (linksOf (now before) (now after) (now machines) (now places)) × (length (now counts) ≡ z .activities) × (length (now stack) ≡ z .activities) ⌝ }
     requires { ⌜ Kept (z .activities) (now taken) (now begun) (now done) × Holding (problemOf (words (now s)) z) (linesIn (now cells) lens) held (now taken) (now begun) (now done) ⌝ }
     ensures answer { λ r. ⌜ r ≡ triedAll (problemOf (words (now (s .entry))) z) (linesIn (now (cells .entry)) lens) (forbidden step pairs left (linesIn (now (cells .entry)) lens)) best (movesOf (ranked three)) held ⌝ }
     ensures holding { λ r. ⌜ Holding (problemOf (words (now (s .entry))) z) (linesIn (now (cells .entry)) lens) r (now (taken .exit)) (now (begun .exit)) (now (done .exit)) ⌝ }
@@ -309,6 +319,8 @@ pub fn try_three(
             after,
             machines,
             places,
+            counts,
+            stack,
             order,
             starts,
             ends,

@@ -14,28 +14,8 @@ use borrow.Author.Needs.{needs}
 use Rattle.timing.proofs.time_linked.Statement.{statement}
 use Rattle.timing.proofs.time_linked.Tie as tie
 
-array-borrow-prefix-counts : tie.Need-array-borrow-prefix-counts
-array-borrow-prefix-counts c = search needs
-
-slice-aggregate-order-and-place : tie.Need-slice-aggregate-order-and-place
-slice-aggregate-order-and-place c = sym (length-take-le (c .before .before .before .before .before .before .before .before .before .before .args .z .activities) (replicate 128 0) (c .before .before .before .before .before .before .before .before .before .before .pre .0 .1 .activities .1))
-
-slice-aggregate-order-and-place-2 : tie.Need-slice-aggregate-order-and-place-2
-slice-aggregate-order-and-place-2 c = search needs
-
 order-and-place-requires : tie.Need-order-and-place-requires
-order-and-place-requires c κs =
-    let few = c .before .before .before .before .before .before .before .before .before .before .before .before .before .before .pre .0 .1 .activities .1 in (
-      c .before .before .before .before .before .before .before .before .before .before .before .before .before .before .pre .0,
-      (
-        c .before .before .before .before .before .before .before .before .before .before .before .before .before .before .pre .1 .0,
-        (
-          record { counted = length-take-le (c .before .before .before .before .before .before .before .before .before .before .before .before .before .before .args .z .activities) (replicate 128 0) few; roomy = few; narrow = omega arith; ordered = c .before .before .before .before .before .before .before .before .before .before .before .before .before .before .pre .1 .1 .0 },
-          c .before .before .before .before .before .before .before .before .before .before .before .before .before .before .pre .1 .1 .1,
-          c .before .before .before .before .before .before .before .before .before .before .before .before .before .before .pre .1 .1 .2,
-        ),
-      ),
-    )
+order-and-place-requires c κs = c .before .before .before .before .before .before .before .before .before .before .before .before .before .before .before .before .pre
 
 same-length : tie.Need-same-length
 same-length c = search needs
@@ -46,23 +26,28 @@ same-length-2 c = search needs
 same-length-3 : tie.Need-same-length-3
 same-length-3 c = search needs
 
+same-length-4 : tie.Need-same-length-4
+same-length-4 c = search needs
+
+same-length-5 : tie.Need-same-length-5
+same-length-5 c = search needs
+
 returns : tie.Need-returns
 returns c =
-    let p = problemOf (words (now (c .before .before .before .before .before .before .before .before .before .before .before .before .before .before .before .before .before .before .before .before .before .before .before .args .s))) (c .before .before .before .before .before .before .before .before .before .before .before .before .before .before .before .before .before .before .before .before .before .before .before .args .z) in
-    let lines = linesIn (now (c .before .before .before .before .before .before .before .before .before .before .before .before .before .before .before .before .before .before .before .before .before .before .before .args .cells)) (now (c .before .before .before .before .before .before .before .before .before .before .before .before .before .before .before .before .before .before .before .before .before .before .before .args .lens)) in
-    let o = c .before .before .before .before .before .before .before .before .order-and-place in
-    let sized = o .kept .1 .1 .1 .1 .1 .1 .1 .1 .1 .1 .1 .0 ∙ c .before .before .before .before .before .before .before .before .before .before .before .before .before .before .before .before .before .before .before .before .before .before .before .pre .1 .1 .0 in
+    let p = problemOf (words (now (c .before .before .before .before .before .before .before .before .before .before .before .before .before .before .before .before .before .before .before .before .before .before .before .before .before .before .before .before .args .s))) (c .before .before .before .before .before .before .before .before .before .before .before .before .before .before .before .before .before .before .before .before .before .before .before .before .before .before .before .before .args .z) in
+    let lines = linesIn (now (c .before .before .before .before .before .before .before .before .before .before .before .before .before .before .before .before .before .before .before .before .before .before .before .before .before .before .before .before .args .cells)) (now (c .before .before .before .before .before .before .before .before .before .before .before .before .before .before .before .before .before .before .before .before .before .before .before .before .before .before .before .before .args .lens)) in
+    let o = c .before .before .before .before .before .before .before .before .before .before .before .order-and-place in
+    let sized = o .kept .1 .1 .1 .1 .1 .1 .1 .1 .1 .1 .1 .0 ∙ c .before .before .before .before .before .before .before .before .before .before .before .before .before .before .before .before .before .before .before .before .before .before .before .before .before .before .before .before .pre .1 .1 .0 .ordered in
     (agrees-when p lines _ (o .ensures .0 .0) sized (o .ensures .0 .1), λ e. timed-when p lines _ (o .ensures .0 .0) sized (o .ensures .1) e)
 
 pub time-linked-spec : {M : Type 1} → statement M
 time-linked-spec =
     tie.close
     (tie.spec
-    array-borrow-prefix-counts
-    slice-aggregate-order-and-place
-    slice-aggregate-order-and-place-2
     order-and-place-requires
     same-length
     same-length-2
     same-length-3
+    same-length-4
+    same-length-5
     returns)
