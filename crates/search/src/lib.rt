@@ -1,13 +1,12 @@
 // The search: steps that try moves on timed lines and make the best of them.
 mod saving;
 mod step;
-mod steps;
 pub mod survey;
 
 use ranking::Three;
+pub use saving::save;
 pub use step::best_move;
 pub use step::make_move;
-pub use steps::keep_best;
 pub use survey::find_moves;
 
 // The moves that a step tries: block moves, then moves to other machines.

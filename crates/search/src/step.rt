@@ -11,8 +11,7 @@ ghost use lib.ListN.{length};
 ghost use Rattle.words.specs.Words.{words};
 ghost use Rattle.plan.specs.Input.{problemOf};
 ghost use Rattle.lines.specs.Lines.{linesIn, Fit};
-ghost use Rattle.lines.specs.Linking.{linksOf, LinesHeld};
-ghost use Rattle.moves.specs.Moves.{applied};
+ghost use Rattle.moves.specs.Moves.{applied, Fits};
 ghost use Rattle.timing.specs.Placing.{Timed};
 ghost use Rattle.reassign.specs.Reassignments.{flexible};
 ghost use Rattle.trial.specs.Taboo.{forbidden};
@@ -21,8 +20,8 @@ ghost use Rattle.trial.specs.declared.Best.the-variants.{Nothing};
 ghost use Rattle.search.specs.Step.{movesFrom};
 ghost use Rattle.search.specs.Asked.{Lined, Space};
 
-// The best of all moves that a step tries. Its timing is kept in the last three buffers; the seven before them are work space. The lines stay as
-// they are, and so do their links.
+// The best of all moves that a step tries. Its timing is kept in the last three buffers; the eleven before them are work space. The lines stay
+// as they are.
 pub fn best_move(
     s: &[u8],
     z: Layout,
@@ -54,13 +53,21 @@ pub fn best_move(
     done: &mut [u64],
 ) -> Best
     requires { ⌜ Ready (now s) z (now table) (now ways) × Lined (z .activities) (z .machines) (now cells) lens × Timed (problemOf (words (now s)) z) (linesIn (now cells) lens) (now order) (now starts) (now ends) × (choices ≡ flexible (problemOf (words (now s)) z)) ⌝ }
-    requires { ⌜ LinesHeld (z .activities) (linesIn (now cells) lens) (linksOf (now before) (now after) (now machines) (now places)) × Space (z .activities) (now before) (now after) (now machines) (now places) (now path) (now tail) (now heads) × (length (now stack) ≡ z .activities) ⌝ }
+    requires { ⌜ Space (z .activities) (now before) (now after) (now machines) (now places) (now path) (now tail) (now heads) × (length (now stack) ≡ z .activities) ⌝ }
     requires { ⌜ Kept (z .activities) (now tried) (now begins) (now finishes) × Kept (z .activities) (now taken) (now begun) (now done) ⌝ }
     ensures answer { λ r. ⌜ r ≡ triedAll (problemOf (words (now (s .entry))) z) (linesIn (now (cells .entry)) lens) (forbidden step pairs left (linesIn (now (cells .entry)) lens)) best (movesFrom (problemOf (words (now (s .entry))) z) (linesIn (now (cells .entry)) lens)) Nothing ⌝ }
     ensures holding { λ r. ⌜ Holding (problemOf (words (now (s .entry))) z) (linesIn (now (cells .entry)) lens) r (now (taken .exit)) (now (begun .exit)) (now (done .exit)) ⌝ }
     ensures lines { λ _. ⌜ linesIn (now (cells .exit)) lens ≡ linesIn (now (cells .entry)) lens ⌝ }
-    ensures linked { λ _. ⌜ LinesHeld (z .activities) (linesIn (now (cells .entry)) lens) (linksOf (now (before .exit)) (now (after .exit)) (now (machines .exit)) (now (places .exit))) ⌝ }
 {
+    lines::link_lines(
+        z.activities,
+        cells,
+        lens,
+        before,
+        after,
+        machines,
+        places,
+    );
     let moves = find_moves(
         s,
         z,
@@ -136,16 +143,11 @@ pub fn best_move(
     )
 }
 
-// Makes a move: its lines become the lines, their links are theirs, and its timing theirs. Answers their lengths.
+// Makes a move: its lines become the lines, and its timing theirs. Answers their lengths.
 pub fn make_move(
-    z: Layout,
     m: Move,
     cells: &mut [usize],
     lens: [usize; 16],
-    before: &mut [usize],
-    after: &mut [usize],
-    machines: &mut [usize],
-    places: &mut [usize],
     taken: &[usize],
     begun: &[u64],
     done: &[u64],
@@ -153,24 +155,12 @@ pub fn make_move(
     starts: &mut [u64],
     ends: &mut [u64],
 ) -> [usize; 16]
-    requires { ⌜ Lined (z .activities) (z .machines) (now cells) lens × (z .machines ≤ 16) × Allowed (z .machines) (linesIn (now cells) lens) m ⌝ }
-    requires { ⌜ LinesHeld (z .activities) (linesIn (now cells) lens) (linksOf (now before) (now after) (now machines) (now places)) × (length (now before) ≡ z .activities) × (length (now after) ≡ z .activities) × (length (now machines) ≡ z .activities) × (length (now places) ≡ z .activities) ⌝ }
+    requires { ⌜ (length (now cells) ≡ 2048) × Fit lens × Fits m (linesIn (now cells) lens) ⌝ }
     requires { ⌜ (length (now order) ≡ length (now taken)) × (length (now starts) ≡ length (now begun)) × (length (now ends) ≡ length (now done)) ⌝ }
     ensures lines { λ r. ⌜ (linesIn (now (cells .exit)) r ≡ applied m (linesIn (now (cells .entry)) lens)) × Fit r ⌝ }
-    ensures linked { λ r. ⌜ LinesHeld (z .activities) (linesIn (now (cells .exit)) r) (linksOf (now (before .exit)) (now (after .exit)) (now (machines .exit)) (now (places .exit))) ⌝ }
     ensures timing { λ _. ⌜ (now (order .exit) ≡ now (taken .entry)) × (now (starts .exit) ≡ now (begun .entry)) × (now (ends .exit) ≡ now (done .entry)) ⌝ }
 {
     let moved = moves::apply(m, cells, lens);
-    moves::relink(
-        m,
-        z.activities,
-        cells,
-        &moved,
-        before,
-        after,
-        machines,
-        places,
-    );
     tables::copy(taken, order);
     trial::copy_times(begun, starts);
     trial::copy_times(done, ends);

@@ -13,7 +13,8 @@ ghost use Rattle.plan.specs.Input.{problemOf};
 ghost use Prim.Native.Nat.{_≤_};
 ghost use Rattle.tables.specs.Tabled.{Tabled};
 ghost use Rattle.tables.specs.Regions.{cells as cellsOfTable};
-ghost use Rattle.lines.specs.Lines.{linesIn, WellFormed};
+ghost use Rattle.intake.specs.Circle.{each};
+ghost use Rattle.lines.specs.Lines.{linesIn, machineOf, WellFormed};
 ghost use Rattle.timing.specs.Placing.{Timed};
 ghost use Rattle.reassign.specs.Reassignments.{flexible};
 ghost use Rattle.trial.specs.Taboo.{forbidden};
@@ -21,6 +22,7 @@ ghost use Rattle.trial.specs.Trial.{Ready, Kept, Holding, triedAll};
 ghost use Rattle.trial.specs.declared.Best.the-variants.{Nothing};
 ghost use Rattle.search.specs.Step.{movesFrom};
 ghost use Rattle.search.specs.Asked.{Lined};
+ghost use Rattle.search.specs.Saving.{tasksOf};
 ghost use Rattle.search.specs.Search.{lesserIf, savedIf, savedOf, genesBy};
 
 // The best of all moves that a step tries. Its timing is kept in the last three buffers.
@@ -55,6 +57,7 @@ pub fn try_step(
     let mut machines = [0usize; 128];
     let mut places = [0usize; 128];
     let mut path = [0usize; 128];
+    let mut stack = [0usize; 128];
     let mut tail = [0u64; 128];
     let mut heads = [0u64; 128];
     let mut tried = [0usize; 128];
@@ -80,6 +83,7 @@ pub fn try_step(
         &mut machines[..n],
         &mut places[..n],
         &mut path[..n],
+        &mut stack[..n],
         &mut tail[..n],
         &mut heads,
         &mut tried[..n],
@@ -89,6 +93,38 @@ pub fn try_step(
         begun,
         done,
     )
+}
+
+// Saves lines and their timing order.
+fn save(
+    n: usize,
+    table: &[usize],
+    cells: &[usize],
+    lens: [usize; 16],
+    order: &[usize],
+    tasks: &mut [usize],
+    machines: &mut [usize],
+)
+    requires { ⌜ (length (now table) ≡ cellsOfTable) × Below 128 (now order) × (length (now cells) ≡ 2048) × WellFormed n 16 (linesIn (now cells) lens) × (n ≤ 128) ⌝ }
+    requires { ⌜ (length (now tasks) ≡ length (now order)) × (length (now machines) ≡ n) ⌝ }
+    ensures tasks { λ _. ⌜ ((p : Problem) → Tabled p (now (table .entry)) → Below (p .n) (now (order .entry)) → now (tasks .exit) ≡ tasksOf p (now (order .entry))) ⌝ }
+    ensures machines { λ _. ⌜ now (machines .exit) ≡ each (machineOf (linesIn (now (cells .entry)) lens)) n 0 ⌝ }
+{
+    let mut before = [0usize; 128];
+    let mut after = [0usize; 128];
+    let mut places = [0usize; 128];
+    search::save(
+        n,
+        table,
+        cells,
+        lens,
+        order,
+        &mut before[..n],
+        &mut after[..n],
+        &mut places[..n],
+        tasks,
+        machines,
+    );
 }
 
 // Saves lines and their timing order where they are better than the best so far.
@@ -108,21 +144,13 @@ pub fn keep(
     ensures best { λ r. ⌜ r .best ≡ lesserIf (lt f (sofar .best)) f (sofar .best) ⌝ }
     ensures saved { λ r. ⌜ ((p : Problem) → Tabled p (now (table .entry)) → Below (p .n) (now (order .entry)) → savedOf (r .found) (now (tasks .exit)) (now (machines .exit)) ≡ savedIf (lt f (sofar .best)) (genesBy p n (now (order .entry)) (linesIn (now (cells .entry)) lens)) (savedOf (sofar .found) (now (tasks .entry)) (now (machines .entry)))) ⌝ }
 {
-    let mut before = [0usize; 128];
-    let mut after = [0usize; 128];
-    let mut places = [0usize; 128];
-    search::keep_best(
-        n,
-        table,
-        cells,
-        lens,
-        order,
-        &mut before[..n],
-        &mut after[..n],
-        &mut places[..n],
-        tasks,
-        machines,
-        f,
-        sofar,
-    )
+    let old = sofar.best;
+    if f < old {
+        save(n, table, cells, lens, order, tasks, machines);
+        return Finish {
+            best: f,
+            found: true,
+        };
+    }
+    sofar
 }

@@ -26,7 +26,7 @@ pub fn search_lines(
     s: &[u8],
     z: Layout,
     table: &[usize],
-    ways: &[[u32; 16]; 16],
+    ways: [[u32; 16]; 16],
     choices: bool,
     limit: usize,
     first: f64,
@@ -41,7 +41,7 @@ pub fn search_lines(
     tasks: &mut [usize],
     machines: &mut [usize],
 ) -> Finish
-    requires { ⌜ Ready (now s) z (now table) (now ways) × Lined (z .activities) (z .machines) (now cells) lens × Timed (problemOf (words (now s)) z) (linesIn (now cells) lens) (now order) (now starts) (now ends) × (choices ≡ flexible (problemOf (words (now s)) z)) ⌝ }
+    requires { ⌜ Ready (now s) z (now table) ways × Lined (z .activities) (z .machines) (now cells) lens × Timed (problemOf (words (now s)) z) (linesIn (now cells) lens) (now order) (now starts) (now ends) × (choices ≡ flexible (problemOf (words (now s)) z)) ⌝ }
     requires { ⌜ (limit ≤ 1000) × (first ≡ lineFitness (problemOf (words (now s)) z) (linesIn (now cells) lens)) × (length (now tasks) ≡ z .activities) × (length (now machines) ≡ z .activities) ⌝ }
     requires { ⌜ Kept (z .activities) (now order) (now starts) (now ends) × Kept (z .activities) (now taken) (now begun) (now done) ⌝ }
     ensures best { λ r. ⌜ r .best ≡ searchedTo (problemOf (words (now (s .entry))) z) limit (linesIn (now (cells .entry)) lens) .best ⌝ }
@@ -63,7 +63,7 @@ pub fn search_lines(
             s,
             z,
             table,
-            ways,
+            &ways,
             choices,
             step,
             pairs,
