@@ -23,7 +23,7 @@ fn search_timed(
     s: &[u8],
     z: Layout,
     table: &[usize],
-    ways: &[[u32; 16]; 16],
+    ways: [[u32; 16]; 16],
     cells: &mut [usize],
     lens: [usize; 16],
     order: &mut [usize],
@@ -32,7 +32,7 @@ fn search_timed(
     tasks: &mut [usize],
     machines: &mut [usize],
 ) -> Finish
-    requires { ⌜ Ready (now s) z (now table) (now ways) × Lined (z .activities) (z .machines) (now cells) lens × Timed (problemOf (words (now s)) z) (linesIn (now cells) lens) (now order) (now starts) (now ends) ⌝ }
+    requires { ⌜ Ready (now s) z (now table) ways × Lined (z .activities) (z .machines) (now cells) lens × Timed (problemOf (words (now s)) z) (linesIn (now cells) lens) (now order) (now starts) (now ends) ⌝ }
     requires { ⌜ Kept (z .activities) (now order) (now starts) (now ends) × (length (now tasks) ≡ z .activities) × (length (now machines) ≡ z .activities) ⌝ }
     ensures best { λ r. ⌜ r .best ≡ searched (problemOf (words (now (s .entry))) z) (linesIn (now (cells .entry)) lens) .best ⌝ }
     ensures found { λ r. ⌜ savedOf (r .found) (now (tasks .exit)) (now (machines .exit)) ≡ searched (problemOf (words (now (s .entry))) z) (linesIn (now (cells .entry)) lens) .found ⌝ }
@@ -94,7 +94,7 @@ pub fn search_and_tell(
     s: &[u8],
     z: Layout,
     table: &[usize],
-    ways: &[[u32; 16]; 16],
+    ways: [[u32; 16]; 16],
     cells: &mut [usize],
     lens: [usize; 16],
     order: &mut [usize],
@@ -103,7 +103,7 @@ pub fn search_and_tell(
     tasks: &mut [usize],
     machines: &mut [usize],
 ) -> Answer
-    requires { ⌜ Ready (now s) z (now table) (now ways) × Lined (z .activities) (z .machines) (now cells) lens × Timed (problemOf (words (now s)) z) (linesIn (now cells) lens) (now order) (now starts) (now ends) ⌝ }
+    requires { ⌜ Ready (now s) z (now table) ways × Lined (z .activities) (z .machines) (now cells) lens × Timed (problemOf (words (now s)) z) (linesIn (now cells) lens) (now order) (now starts) (now ends) ⌝ }
     requires { ⌜ Kept (z .activities) (now order) (now starts) (now ends) × (128 ≤ length (now tasks)) × (128 ≤ length (now machines)) ⌝ }
     ensures answer { λ r. ⌜ r ≡ told (thirteenOr (searched (problemOf (words (now (s .entry))) z) (linesIn (now (cells .entry)) lens))) ⌝ }
     ensures tasks { λ _. ⌜ now (tasks .exit) ≡ tasksOver (thirteenOr (searched (problemOf (words (now (s .entry))) z) (linesIn (now (cells .entry)) lens))) (now (tasks .entry)) ⌝ }

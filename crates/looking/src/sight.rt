@@ -10,6 +10,7 @@ ghost use lib.ListN.{length};
 ghost use Rattle.words.specs.Words.{words};
 ghost use Rattle.plan.specs.Input.{problemOf};
 ghost use Rattle.lines.specs.Lines.{linesIn};
+ghost use Rattle.lines.specs.Linking.{LinesHeld, linksOf};
 ghost use Rattle.timing.specs.Placing.{Timed};
 ghost use Rattle.rows.specs.Rows.{over};
 ghost use Rattle.trial.specs.Trial.{Ready, movesOf};
@@ -29,7 +30,7 @@ struct Held {
     others: usize,
 }
 
-// Writes the path and every block move of it. The six buffers before the results are work space.
+// Writes the path and every block move of it. The two buffers before the results are work space.
 fn see_path(
     s: &[u8],
     z: Layout,
@@ -40,17 +41,17 @@ fn see_path(
     order: &[usize],
     starts: &[u64],
     ends: &[u64],
-    before: &mut [usize],
-    after: &mut [usize],
-    machines: &mut [usize],
-    places: &mut [usize],
+    before: &[usize],
+    after: &[usize],
+    machines: &[usize],
+    places: &[usize],
     trail: &mut [usize],
     tail: &mut [u64],
     path: &mut [usize],
     moves: &mut [usize],
 ) -> Walked
     requires { ⌜ Ready (now s) z (now table) (now ways) × Lined (z .activities) (z .machines) (now cells) lens × Timed (problemOf (words (now s)) z) (linesIn (now cells) lens) (now order) (now starts) (now ends) ⌝ }
-    requires { ⌜ (length (now before) ≡ z .activities) × (length (now after) ≡ z .activities) × (length (now machines) ≡ z .activities) × (length (now places) ≡ z .activities) × (length (now trail) ≡ z .activities) × (length (now tail) ≡ z .activities) × (128 ≤ length (now path)) × (1536 ≤ length (now moves)) ⌝ }
+    requires { ⌜ LinesHeld (z .activities) (linesIn (now cells) lens) (linksOf (now before) (now after) (now machines) (now places)) × (length (now before) ≡ z .activities) × (length (now after) ≡ z .activities) × (length (now machines) ≡ z .activities) × (length (now places) ≡ z .activities) × (length (now trail) ≡ z .activities) × (length (now tail) ≡ z .activities) × (128 ≤ length (now path)) × (1536 ≤ length (now moves)) ⌝ }
     ensures counts { λ r. ⌜ (r .path ≡ length (pathOn (problemOf (words (now (s .entry))) z) (linesIn (now (cells .entry)) lens))) × (r .moves ≡ length (movesOn (problemOf (words (now (s .entry))) z) (linesIn (now (cells .entry)) lens))) ⌝ }
     ensures path { λ _. ⌜ now (path .exit) ≡ over (pathOn (problemOf (words (now (s .entry))) z) (linesIn (now (cells .entry)) lens)) (now (path .entry)) ⌝ }
     ensures moves { λ _. ⌜ now (moves .exit) ≡ over (rowsOf (movesOn (problemOf (words (now (s .entry))) z) (linesIn (now (cells .entry)) lens))) (now (moves .entry)) ⌝ }
@@ -83,7 +84,7 @@ fn see_path(
     }
 }
 
-// Writes the moves that are kept, and their ranks. The seven buffers before the results are work space.
+// Writes the moves that are kept, and their ranks. The three buffers before the results are work space.
 fn see_kept(
     s: &[u8],
     z: Layout,
@@ -94,10 +95,10 @@ fn see_kept(
     order: &[usize],
     starts: &[u64],
     ends: &[u64],
-    before: &mut [usize],
-    after: &mut [usize],
-    machines: &mut [usize],
-    places: &mut [usize],
+    before: &[usize],
+    after: &[usize],
+    machines: &[usize],
+    places: &[usize],
     trail: &mut [usize],
     tail: &mut [u64],
     heads: &mut [u64],
@@ -105,7 +106,7 @@ fn see_kept(
     ranks: &mut [u64],
 ) -> Held
     requires { ⌜ Ready (now s) z (now table) (now ways) × Lined (z .activities) (z .machines) (now cells) lens × Timed (problemOf (words (now s)) z) (linesIn (now cells) lens) (now order) (now starts) (now ends) ⌝ }
-    requires { ⌜ Space (z .activities) (now before) (now after) (now machines) (now places) (now trail) (now tail) (now heads) × (128 ≤ length (now kept)) × (128 ≤ length (now ranks)) ⌝ }
+    requires { ⌜ LinesHeld (z .activities) (linesIn (now cells) lens) (linksOf (now before) (now after) (now machines) (now places)) × Space (z .activities) (now before) (now after) (now machines) (now places) (now trail) (now tail) (now heads) × (128 ≤ length (now kept)) × (128 ≤ length (now ranks)) ⌝ }
     ensures counts { λ r. ⌜ (r .blocks ≡ length (blocksOn (problemOf (words (now (s .entry))) z) (linesIn (now (cells .entry)) lens))) × (r .others ≡ length (othersOn (problemOf (words (now (s .entry))) z) (linesIn (now (cells .entry)) lens))) ⌝ }
     ensures kept { λ _. ⌜ now (kept .exit) ≡ over (rowsOf (movesOf (blocksOn (problemOf (words (now (s .entry))) z) (linesIn (now (cells .entry)) lens))) ++ rowsOf (movesOf (othersOn (problemOf (words (now (s .entry))) z) (linesIn (now (cells .entry)) lens)))) (now (kept .entry)) ⌝ }
     ensures ranks { λ _. ⌜ now (ranks .exit) ≡ over (ranksOf (blocksOn (problemOf (words (now (s .entry))) z) (linesIn (now (cells .entry)) lens)) ++ ranksOf (othersOn (problemOf (words (now (s .entry))) z) (linesIn (now (cells .entry)) lens))) (now (ranks .entry)) ⌝ }
@@ -140,21 +141,21 @@ fn see_kept(
     }
 }
 
-// Writes all that a step sees of timed lines. The seven buffers before the results are work space.
+// Writes all that a step sees of timed lines. The three buffers before the results are work space.
 pub fn see(
     s: &[u8],
     z: Layout,
     table: &[usize],
-    ways: &[[u32; 16]; 16],
+    ways: [[u32; 16]; 16],
     cells: &[usize],
     lens: [usize; 16],
     order: &[usize],
     starts: &[u64],
     ends: &[u64],
-    before: &mut [usize],
-    after: &mut [usize],
-    machines: &mut [usize],
-    places: &mut [usize],
+    before: &[usize],
+    after: &[usize],
+    machines: &[usize],
+    places: &[usize],
     trail: &mut [usize],
     tail: &mut [u64],
     heads: &mut [u64],
@@ -163,8 +164,8 @@ pub fn see(
     kept: &mut [usize],
     ranks: &mut [u64],
 ) -> Answer
-    requires { ⌜ Ready (now s) z (now table) (now ways) × Lined (z .activities) (z .machines) (now cells) lens × Timed (problemOf (words (now s)) z) (linesIn (now cells) lens) (now order) (now starts) (now ends) ⌝ }
-    requires { ⌜ Space (z .activities) (now before) (now after) (now machines) (now places) (now trail) (now tail) (now heads) × (128 ≤ length (now path)) × (1536 ≤ length (now moves)) × (128 ≤ length (now kept)) × (128 ≤ length (now ranks)) ⌝ }
+    requires { ⌜ Ready (now s) z (now table) ways × Lined (z .activities) (z .machines) (now cells) lens × Timed (problemOf (words (now s)) z) (linesIn (now cells) lens) (now order) (now starts) (now ends) ⌝ }
+    requires { ⌜ LinesHeld (z .activities) (linesIn (now cells) lens) (linksOf (now before) (now after) (now machines) (now places)) × Space (z .activities) (now before) (now after) (now machines) (now places) (now trail) (now tail) (now heads) × (128 ≤ length (now path)) × (1536 ≤ length (now moves)) × (128 ≤ length (now kept)) × (128 ≤ length (now ranks)) ⌝ }
     ensures answer { λ r. ⌜ r ≡ answerOf (seen (sightOf (problemOf (words (now (s .entry))) z) (linesIn (now (cells .entry)) lens))) ⌝ }
     ensures left { λ _. ⌜ Leaves (seen (sightOf (problemOf (words (now (s .entry))) z) (linesIn (now (cells .entry)) lens))) (now (path .entry)) (now (moves .entry)) (now (kept .entry)) (now (ranks .entry)) (now (path .exit)) (now (moves .exit)) (now (kept .exit)) (now (ranks .exit)) ⌝ }
 {
@@ -172,7 +173,7 @@ pub fn see(
         s,
         z,
         table,
-        ways,
+        &ways,
         cells,
         lens,
         order,
@@ -191,7 +192,7 @@ pub fn see(
         s,
         z,
         table,
-        ways,
+        &ways,
         cells,
         lens,
         order,
