@@ -1,7 +1,7 @@
 -- Moves offered one after the other: none, one, some after others.
 use Prim.Native.Nat.{ℕ, zero, suc, _+_, _-_, _≤_, _<_, max, min}
 use mathlib.Core.Path.{_≡_, refl, sym, ap, _∙_}
-use mathlib.Core.Bool.{Bool, cond}
+use mathlib.Core.Bool.{Bool, false, cond}
 use mathlib.Core.List.{List, [], _∷_, _++_, map}
 use native.Mathlib.Omega.{arith}
 use borrow.Author.Tests.{lt-ltb, le-ltb}
@@ -13,7 +13,9 @@ use Rattle.moves.specs.declared.Move.{Move}
 use Rattle.moves.specs.declared.Move.the-variants.{Swap, Shift}
 use Rattle.moves.proofs.LineLaws.{swap-shifted}
 use Rattle.ranking.specs.declared.Rated.{Rated}
-use Rattle.ranking.specs.Ranking.{withOne, withAll}
+use Rattle.ranking.specs.declared.Three.{Three}
+use Rattle.ranking.specs.Ranking.{ranked, withOne, withAll, enters}
+use Rattle.ranking.proofs.KeepLaws.{stays-out}
 use Rattle.ranking.proofs.StreamLaws.{with-append}
 use Rattle.path.specs.Placing.{placed}
 use Rattle.blocks.specs.Estimates.{estimateOf}
@@ -66,6 +68,15 @@ module _ {all : Bool} {m : ℕ} {table starts ends tail line : List ℕ} where
   unfolding withAll
   offers-one move {before} rated e k =
       record { kept = λ p lines order r. k ∙ ap (λ (x : Rated). withOne x before) (e p lines order r) }
+
+  -- .. that does not enter.
+  pub offers-out : (move : Move) (three : Three) (length : ℕ) → three .count ≤ 3 → enters three length 0 ≡ false
+      → ((p : Problem) (lines : Lines) (order : List ℕ) → Rateable p lines m table starts ends tail line
+      → record { length = length; time = 0; made = move } ≡ offered all p lines (placed order starts ends) tail move)
+      → Offers all m (move ∷ []) table starts ends tail line (ranked three) (ranked three)
+  offers-out move three length few out e =
+      let rated : Rated = record { length = length; time = 0; made = move } in
+      offers-one move rated e (stays-out three rated few out)
 
   pub shifts-begin : (to from : ℕ) {held : List Rated} → Offers all m (shifts m to from (from - from)) table starts ends tail line held held
   unfolding shifts

@@ -70,7 +70,7 @@ fn weigh(
     )
 }
 
-// The swap of a position with the next is offered.
+// The swap of a position with the next is offered. The three are left alone where its estimate does not enter.
 fn offer_swap(
     all: bool,
     m: usize,
@@ -87,6 +87,9 @@ fn offer_swap(
     ensures { λ r. ⌜ Offers all m (Swap m at ∷ []) (now (table .entry)) (now (starts .entry)) (now (ends .entry)) (now (tail .entry)) (now (line .entry)) (ranked three) (ranked r) × (r .count ≤ 3) ⌝ }
 {
     let length = weigh(all, line, at, at + 1, table, starts, ends, tail, heads);
+    if !ranking::enters(three, length, 0) {
+        return three;
+    }
     let rated = Rated {
         length,
         time: 0,
@@ -95,33 +98,7 @@ fn offer_swap(
     ranking::keep(three, rated)
 }
 
-// The shift from a position to another is offered.
-fn offer_shift(
-    all: bool,
-    m: usize,
-    from: usize,
-    to: usize,
-    line: &[usize],
-    table: &[usize],
-    starts: &[u64],
-    ends: &[u64],
-    tail: &[u64],
-    heads: &mut [u64],
-    three: Three,
-) -> Three
-    requires { ⌜ Estimable (now table) (now starts) (now ends) (now tail) (now line) × (from < length (now line)) × (to < length (now line)) × (length (now line) ≤ length (now heads)) × (three .count ≤ 3) ⌝ }
-    ensures { λ r. ⌜ Offers all m (Shift m from to ∷ []) (now (table .entry)) (now (starts .entry)) (now (ends .entry)) (now (tail .entry)) (now (line .entry)) (ranked three) (ranked r) × (r .count ≤ 3) ⌝ }
-{
-    let length = weigh(all, line, from, to, table, starts, ends, tail, heads);
-    let rated = Rated {
-        length,
-        time: 0,
-        made: Move::Shift(m, from, to),
-    };
-    ranking::keep(three, rated)
-}
-
-// The shifts to one position are offered, from each of others in turn.
+// The shifts to one position are offered, from each of others in turn. The three are left alone where an estimate does not enter.
 fn offer_shifts(
     all: bool,
     m: usize,
@@ -142,8 +119,18 @@ fn offer_shifts(
     let mut best = three;
     let mut at = from;
     while at < end {
-        best = offer_shift(all, m, at, to, line, table, starts, ends, tail, heads, best);
+        let here = at;
         at += 1;
+        let length = weigh(all, line, here, to, table, starts, ends, tail, heads);
+        if !ranking::enters(best, length, 0) {
+            continue;
+        }
+        let rated = Rated {
+            length,
+            time: 0,
+            made: Move::Shift(m, here, to),
+        };
+        best = ranking::keep(best, rated);
     }
     best
 }

@@ -1,15 +1,23 @@
 -- Where a move goes among three. Assumes nothing.
 use mathlib.Core.Path.{_≡_, refl}
-use mathlib.Core.Bool.{true, false}
+use mathlib.Core.Bool.{Bool, true, false, _||_, true≢false}
 use mathlib.Core.List.{[], _∷_}
 use Prim.Native.Nat.{ℕ, zero, suc, _≤_, _<_, min}
 use native.Mathlib.Omega.{arith}
 use lib.ListN.{take, getD}
 use Rattle.ranking.specs.declared.Rated.{Rated}
-use Rattle.ranking.specs.Ranking.{insertBy, withOne, goesAt}
+use Rattle.ranking.specs.declared.Three.{Three}
+use Rattle.ranking.specs.Ranking.{insertBy, ranked, withOne, goesAt, enters}
+
+neither : (a b : Bool) → (a || b) ≡ false → (a ≡ false) × (b ≡ false)
+neither false b e = (refl, e)
+neither true b e = (e, absurd (true≢false e))
 
 module _ (x a b c : Rated) where
-  pub goes-first : (n : ℕ) → n ≤ 3 → goesAt n 0 x a ≡ true → take (min (suc n) 3) (x ∷ a ∷ b ∷ []) ≡ withOne x (take n (a ∷ b ∷ c ∷ []))
+  abbrev goes : (count place : ℕ) → Rated → Bool
+  goes n k y = goesAt n k (x .length) (x .time) y
+
+  pub goes-first : (n : ℕ) → n ≤ 3 → goes n 0 a ≡ true → take (min (suc n) 3) (x ∷ a ∷ b ∷ []) ≡ withOne x (take n (a ∷ b ∷ c ∷ []))
   unfolding insertBy
   goes-first zero h e = refl
   goes-first (suc zero) h e = rw e
@@ -17,7 +25,7 @@ module _ (x a b c : Rated) where
   goes-first (suc (suc (suc zero))) h e = rw e
   goes-first (suc (suc (suc (suc n)))) h e = absurd (omega arith)
 
-  pub goes-second : (n : ℕ) → n ≤ 3 → goesAt n 0 x a ≡ false → goesAt n 1 x b ≡ true → take (min (suc n) 3) (a ∷ x ∷ b ∷ []) ≡ withOne x (take n (a ∷ b ∷ c ∷ []))
+  pub goes-second : (n : ℕ) → n ≤ 3 → goes n 0 a ≡ false → goes n 1 b ≡ true → take (min (suc n) 3) (a ∷ x ∷ b ∷ []) ≡ withOne x (take n (a ∷ b ∷ c ∷ []))
   unfolding insertBy
   goes-second zero h z e = cc
   goes-second (suc zero) h z e = rw z
@@ -25,7 +33,7 @@ module _ (x a b c : Rated) where
   goes-second (suc (suc (suc zero))) h z e = rw (z, e)
   goes-second (suc (suc (suc (suc n)))) h z e = absurd (omega arith)
 
-  pub goes-third : (n : ℕ) → n ≤ 3 → goesAt n 0 x a ≡ false → goesAt n 1 x b ≡ false → goesAt n 2 x c ≡ true
+  pub goes-third : (n : ℕ) → n ≤ 3 → goes n 0 a ≡ false → goes n 1 b ≡ false → goes n 2 c ≡ true
       → take (min (suc n) 3) (a ∷ b ∷ x ∷ []) ≡ withOne x (take n (a ∷ b ∷ c ∷ []))
   unfolding insertBy
   goes-third zero h z y e = cc
@@ -34,7 +42,7 @@ module _ (x a b c : Rated) where
   goes-third (suc (suc (suc zero))) h z y e = rw (z, y, e)
   goes-third (suc (suc (suc (suc n)))) h z y e = absurd (omega arith)
 
-  pub falls-out : (n : ℕ) → n ≤ 3 → goesAt n 0 x a ≡ false → goesAt n 1 x b ≡ false → goesAt n 2 x c ≡ false
+  pub falls-out : (n : ℕ) → n ≤ 3 → goes n 0 a ≡ false → goes n 1 b ≡ false → goes n 2 c ≡ false
       → take n (a ∷ b ∷ c ∷ []) ≡ withOne x (take n (a ∷ b ∷ c ∷ []))
   unfolding insertBy
   falls-out zero h z y e = cc
@@ -42,6 +50,13 @@ module _ (x a b c : Rated) where
   falls-out (suc (suc zero)) h z y e = cc
   falls-out (suc (suc (suc zero))) h z y e = rw (z, y, e)
   falls-out (suc (suc (suc (suc n)))) h z y e = absurd (omega arith)
+
+-- what enters nowhere leaves the three as they are
+pub stays-out : (three : Three) (x : Rated) → three .count ≤ 3 → enters three (x .length) (x .time) ≡ false → ranked three ≡ withOne x (ranked three)
+stays-out three x few e =
+    let f = neither _ _ e in
+    let g = neither _ _ (f .0) in
+    falls-out x (three .first) (three .second) (three .third) (three .count) few (g .0) (g .1) (f .1)
 
 module _ (a b c other : Rated) where
   pub first-at : (n k : ℕ) → k < n → k ≡ 0 → a ≡ getD (take n (a ∷ b ∷ c ∷ [])) k other

@@ -8,8 +8,11 @@ use Rattle.ranking.specs.declared.Rated.{Rated}
 use Rattle.ranking.specs.declared.Three.{Three}
 
 -- by (length, time)
+abbrev pub ranksBefore : (length time : ℕ) → Rated → Bool
+ranksBefore length time y = ltb length (y .length) || (eqb length (y .length) && ltb time (y .time))
+
 abbrev pub precedes : Rated → Rated → Bool
-precedes x y = ltb (x .length) (y .length) || (eqb (x .length) (y .length) && ltb (x .time) (y .time))
+precedes x y = ranksBefore (x .length) (x .time) y
 
 -- x before the first that it is strictly less than: after its equals
 unfoldable pub insertBy : {A : Type 0} → (A → A → Bool) → A → List A → List A
@@ -36,9 +39,16 @@ ranked three = take (three .count) (three .first ∷ three .second ∷ three .th
 abbrev pub withOne : Rated → List Rated → List Rated
 withOne x l = take 3 (insertBy precedes x l)
 
--- a place is free for x, or held by one that x precedes
-abbrev pub goesAt : (count place : ℕ) → (x y : Rated) → Bool
-goesAt count place x y = leb count place || precedes x y
+-- a place is free for a rank, or held by one that it precedes
+abbrev pub goesAt : (count place length time : ℕ) → (held : Rated) → Bool
+goesAt count place length time held = leb count place || ranksBefore length time held
+
+-- a move of this rank goes to one of the three places
+abbrev pub enters : Three → (length time : ℕ) → Bool
+enters three length time =
+    goesAt (three .count) 0 length time (three .first)
+    || goesAt (three .count) 1 length time (three .second)
+    || goesAt (three .count) 2 length time (three .third)
 
 -- with more, one after the other
 unfoldable pub withAll : List Rated → List Rated → List Rated

@@ -5,7 +5,7 @@ ghost use mathlib.Core.List.{[]};
 ghost use Prim.Native.Nat.{_≤_, _<_, min, suc};
 ghost use lib.ListN.{getD};
 ghost use Rattle.ranking.specs.declared.Rated.{Rated};
-ghost use Rattle.ranking.specs.Ranking.{ranked, withOne, goesAt};
+ghost use Rattle.ranking.specs.Ranking.{ranked, withOne, goesAt, enters};
 use moves::Move;
 
 // A move with its rank: the length of the longest way that it leaves, and the time by which equal lengths go.
@@ -45,20 +45,33 @@ pub fn none() -> Three
     }
 }
 
-// A place is free for a move, or held by one that it precedes.
-fn goes_at(count: usize, place: usize, x: Rated, y: Rated) -> bool
-    ensures { λ r. ⌜ r ≡ goesAt count place x y ⌝ }
+// A place is free for a rank, or held by one that it precedes.
+fn goes_at(count: usize, place: usize, length: u64, time: u64, held: Rated) -> bool
+    ensures { λ r. ⌜ r ≡ goesAt count place length time held ⌝ }
 {
     if count <= place {
         return true;
     }
-    if x.length < y.length {
+    if length < held.length {
         return true;
     }
-    if x.length == y.length {
-        return x.time < y.time;
+    if length == held.length {
+        return time < held.time;
     }
     false
+}
+
+// A move of this rank would be held: a place is free, or one that is held falls out for it.
+pub fn enters(three: Three, length: u64, time: u64) -> bool
+    ensures { λ r. ⌜ r ≡ enters three length time ⌝ }
+{
+    if goes_at(three.count, 0, length, time, three.first) {
+        return true;
+    }
+    if goes_at(three.count, 1, length, time, three.second) {
+        return true;
+    }
+    goes_at(three.count, 2, length, time, three.third)
 }
 
 // One more held, at most three.
@@ -79,9 +92,11 @@ pub fn keep(three: Three, rated: Rated) -> Three
     ensures { λ r. ⌜ r .count ≤ 3 ⌝ }
 {
     let count = grown(three.count);
+    let length = rated.length;
+    let time = rated.time;
     let first = three.first;
     let second = three.second;
-    if goes_at(three.count, 0, rated, first) {
+    if goes_at(three.count, 0, length, time, first) {
         return Three {
             count,
             first: rated,
@@ -89,7 +104,7 @@ pub fn keep(three: Three, rated: Rated) -> Three
             third: second,
         };
     }
-    if goes_at(three.count, 1, rated, second) {
+    if goes_at(three.count, 1, length, time, second) {
         return Three {
             count,
             first,
@@ -97,7 +112,7 @@ pub fn keep(three: Three, rated: Rated) -> Three
             third: second,
         };
     }
-    if goes_at(three.count, 2, rated, three.third) {
+    if goes_at(three.count, 2, length, time, three.third) {
         return Three {
             count,
             first,

@@ -1,5 +1,6 @@
 pub mod PositionLaws
 pub mod WayLaws
+pub mod RoomLaws
 pub mod OfferLaws
 pub mod SeenLaws
 pub mod ReassignedLaws

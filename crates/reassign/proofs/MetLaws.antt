@@ -1,7 +1,7 @@
 -- What reassignments ask is so of an accepted problem, its well-formed lines once they are timed, and their tails. Assumes nothing.
 use mathlib.Core.Path.{_≡_, refl, sym, _∙_}
 use mathlib.Core.List.{List, [], _∷_}
-use Prim.Native.Nat.{ℕ, zero, suc, _≤_, _<_, _^_}
+use Prim.Native.Nat.{ℕ, zero, suc, _<_, _^_}
 use native.Mathlib.Omega.{arith}
 use lib.ListN.{length, getD}
 use Rattle.graph.specs.Counting.{Below}
@@ -24,16 +24,13 @@ line-below n [] m h = tt
 line-below n (l ∷ lines) zero h = h .0
 line-below n (l ∷ lines) (suc m) h = line-below n lines m (h .1)
 
-below-wider : (n k : ℕ) (l : List ℕ) → n ≤ k → Below n l → Below k l
-unfolding Below
-below-wider n k [] h b = tt
-below-wider n k (x ∷ l) h b = (omega (arith, b .0), below-wider n k l h (b .1))
-
 module _ {p : Problem} {g : Genes} (ok : Accepted p g) {lines : Lines} (w : WellFormed (p .n) (p .machines) lines) where
   pub accepted-open : Open p lines
   accepted-open =
       record {
-        candidates = λ a h. below-wider (p .machines) 16 (p .candidates a) (ok .machines .1) (ok .candidates a);
+        sixteen = ok .machines .1;
+        candidates = λ a h. ok .candidates a;
+        short = λ a m h k. omega (arith, ok .setup a m h k, ok .process a m h k, ok .teardown a m h k);
         standing = λ a h. omega (arith, machine-below w a h, ok .machines .1);
         lined = λ m. line-below (p .n) lines m (lines-below w);
       }

@@ -1,47 +1,17 @@
--- What is offered to the three, one line or one loop at a time. Assumes nothing.
+-- What is offered to the three, one loop at a time. Assumes nothing.
 use mathlib.Core.Path.{_≡_, refl, sym, ap, _∙_}
 use mathlib.Core.Bool.{Bool, true, false, cond}
-use mathlib.Core.List.{List, [], _++_}
-use Prim.Native.Nat.{ℕ, suc, _+_, _*_, _-_, _≤_, _<_}
+use mathlib.Core.List.{List, [], _∷_, _++_}
+use Prim.Native.Nat.{ℕ, suc, _+_, _≤_, _<_}
 use native.Mathlib.Omega.{arith}
 use native.Mathlib.Numerals.{add-one}
-use borrow.Author.Tests.{le-leb, lt-leb}
-use lib.Dec.{leb}
-use lib.ListN.{length, getD, take, drop}
+use lib.ListN.{length, getD, drop}
 use lib.Seq.{drop-cons, drop-length}
-use Rattle.lines.specs.Lines.{linesIn}
-use Rattle.lines.proofs.StretchLaws.{line-in}
-use Rattle.moves.specs.Moves.{lineOf, Holds}
 use Rattle.ranking.specs.Ranking.{bestThree, ranked, withOne, withAll}
 use Rattle.ranking.specs.declared.Rated.{Rated}
 use Rattle.ranking.specs.declared.Three.{Three}
 use Rattle.ranking.proofs.StreamLaws.{streamed-all, with-append}
-use Rattle.reassign.specs.declared.Spot.{Spot}
-use Rattle.reassign.specs.declared.Leaving.{Leaving}
-use Rattle.reassign.specs.Reassignments.{oneIf, ratedAt, spotOf, gathered}
-
--- ---- one line
-
--- machine m's line, as the code lends it
-pub line-lent : {cells lens : List ℕ} (m : ℕ) → Holds cells lens → m < 16 → take (128 * m + getD lens m 0 - 128 * m) (drop (128 * m) cells) ≡ lineOf (linesIn cells lens) m
-line-lent {cells} {lens} m held h =
-    let q : 128 * m + getD lens m 0 - 128 * m ≡ getD lens m 0 = omega arith in
-    rw q (sym (line-in cells lens m (omega (arith, held .sixteen)) (omega (arith, held .roomy, held .fit m))))
-
--- no position
-pub none-offered : (held : List Rated) (x : Rated) (F L : ℕ) {first last : ℕ} → first ≡ F → last ≡ L → last < first → held ≡ withAll held (oneIf (leb F L) x)
-unfolding withAll
-none-offered held x F L e f h = let t : leb F L ≡ false = lt-leb F L (omega arith) in rw t
-
--- the best position
-pub one-offered : (held : List Rated) (lengths : ℕ → ℕ) (l : Leaving) (to time F L : ℕ) {first last : ℕ} {spot : Spot} {kept : List Rated} → first ≡ F → last ≡ L → first ≤ last
-    → spot ≡ spotOf lengths first last → kept ≡ withOne (ratedAt l to time spot) held → kept ≡ withAll held (oneIf (leb F L) (ratedAt l to time (spotOf lengths F L)))
-unfolding withAll
-one-offered held lengths l to time F L e f h s k =
-    let t : leb F L ≡ true = le-leb F L (omega arith) in
-    k ∙ ap (λ (x : Spot). withOne (ratedAt l to time x) held) s ∙ rw (t, e, f)
-
--- ---- one loop
+use Rattle.reassign.specs.Reassignments.{gathered}
 
 -- what is left to offer, after what is held, gives the same three as all of it after what was held at first
 pub record Offering (f : ℕ → List Rated) (list : List ℕ) (held : List Rated) (best : Three) (i : ℕ) : Type 0 where
@@ -62,6 +32,14 @@ module _ {f : ℕ → List Rated} {list : List ℕ} {held : List Rated} {best : 
         few = few;
         left = rw (add-one i) (ap (λ (r : List Rated). withAll r (gathered f (drop (suc i) list))) e ∙ sym (with-append (ranked best) (f (getD list i 0)) (gathered f (drop (suc i) list))) ∙ d);
       }
+
+  pub offering-none : i < length list → f (getD list i 0) ≡ [] → Offering f list held best (i + 1)
+  unfolding withAll
+  offering-none h e = offering-again h (rw e) (k .few)
+
+  pub offering-one : i < length list → {x : Rated} {next : Three} → f (getD list i 0) ≡ x ∷ [] → ranked next ≡ withOne x (ranked best) → next .count ≤ 3 → Offering f list held next (i + 1)
+  unfolding withAll
+  offering-one h e o few = offering-again h (rw e o) few
 
   pub offering-end : length list ≤ i → ranked best ≡ withAll held (gathered f list)
   unfolding gathered withAll

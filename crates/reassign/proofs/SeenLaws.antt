@@ -1,10 +1,11 @@
--- What an activity leaves behind is short enough to be added up. Assumes nothing.
+-- What an activity leaves behind is short enough to be added up, and so is its time where it may go. Assumes nothing.
 use mathlib.Core.List.{List, [], _∷_, _++_}
 use Prim.Native.Nat.{ℕ, _<_, _^_}
 use native.Mathlib.Omega.{arith}
-use lib.ListN.{length}
+use lib.ListN.{length, getD}
 use Rattle.graph.specs.Counting.{Below}
 use Rattle.graph.specs.Links.{linked}
+use Rattle.graph.proofs.CountingLaws.{below-at}
 use Rattle.plan.specs.Problem.{Problem}
 use Rattle.tables.specs.Tabled.{taskPred, taskSucc}
 use Rattle.lines.specs.Lines.{Lines, machineOf}
@@ -12,7 +13,7 @@ use Rattle.path.specs.Placing.{endAt}
 use Rattle.path.specs.Tails.{after}
 use Rattle.path.proofs.NeighbourLaws.{pred-below, succ-below}
 use Rattle.reassign.specs.Reassignments.{headOf, restOf, leavingOf}
-use Rattle.reassign.specs.Reassigning.{unordered, Ready, Seen}
+use Rattle.reassign.specs.Reassigning.{unordered, Ready, Able, Seen, Open, Movable}
 use Rattle.reassign.proofs.WayLaws.{greatest-under}
 
 below-both : (n : ℕ) (l m : List ℕ) → Below n l → Below n m → Below n (l ++ m)
@@ -35,3 +36,25 @@ module _ {p : Problem} {lines : Lines} {table machines places starts ends tail :
 
   pub ready : machineOf lines a < 16 → Ready (length tail) (leavingOf p lines (unordered starts ends) tail a)
   ready on = record { machine = on; known = omega (arith, known, v .tailed); head = head-early; rest = rest-short }
+
+  -- its candidates are machines that it may be tried on
+  pub able : Open p lines → Able p table a (p .candidates a)
+  able o =
+      record {
+        tabled = v .tabled;
+        known = known;
+        few = v .few;
+        sixteen = o .sixteen;
+        own = o .candidates a known;
+        short = λ m h. o .short a m known h;
+      }
+
+pub first-known : {p : Problem} {lines : Lines} {table machines places starts ends tail path : List ℕ} {a : ℕ} → Movable p lines table machines places starts ends tail (a ∷ path) → a < p .n
+unfolding Below
+first-known w = w .known .0
+
+-- one activity of a path
+pub one-of : {p : Problem} {lines : Lines} {table machines places starts ends tail path : List ℕ} (i : ℕ) → i < length path → Movable p lines table machines places starts ends tail path
+    → Movable p lines table machines places starts ends tail (getD path i 0 ∷ [])
+unfolding Below
+one-of {p} {path = path} i h w = record { seen = w .seen; opened = w .opened; known = (below-at (p .n) path i (w .known) h, tt) }

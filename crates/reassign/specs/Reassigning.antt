@@ -13,6 +13,7 @@ use Rattle.path.specs.Placing.{Placing, placed}
 use Rattle.path.specs.Following.{Addable}
 use Rattle.reassign.specs.declared.Way.{Way}
 use Rattle.reassign.specs.declared.Leaving.{Leaving}
+use Rattle.reassign.specs.Reassignments.{timeOn}
 
 -- A placing by its starts and ends: what reassignments are does not depend on the order.
 abbrev pub unordered : (starts ends : List ℕ) → Placing
@@ -49,6 +50,20 @@ pub record Ready (n : ℕ) (l : Leaving) : Type 0 where
   pub head : l .head < 2 ^ 62
   pub rest : l .rest < 2 ^ 62
 
+-- A problem in its tables, an activity of it, and machines of it on which the activity's time is not long.
+pub record Able (p : Problem) (table : List ℕ) (a : ℕ) (machines : List ℕ) : Type 0 where
+  pub tabled : Tabled p table
+  pub known : a < p .n
+  pub few : p .n ≤ 128
+  pub sixteen : p .machines ≤ 16
+  pub own : Below (p .machines) machines
+  pub short : (m : ℕ) → m < p .machines → timeOn p a m < 2 ^ 34
+
+-- Some problem is so able.
+pub record SomeAble (table : List ℕ) (a : ℕ) (machines : List ℕ) : Type 0 where
+  pub problem : Problem
+  pub able : Able problem table a machines
+
 -- The tables of a problem, each activity's machine and position on lines, and starts, ends and tails of all.
 pub record Seen (p : Problem) (lines : Lines) (table machines places starts ends tail : List ℕ) : Type 0 where
   pub tabled : Tabled p table
@@ -70,8 +85,20 @@ pub record SomeSeen (table machines places starts ends tail : List ℕ) (a : ℕ
   pub seen : Seen problem lines table machines places starts ends tail
   pub known : a < problem .n
 
--- Candidates are machines, activities stand on machines, and lines are of activities.
+-- Candidates are machines, no time on one is long, activities stand on machines, and lines are of activities.
 pub record Open (p : Problem) (lines : Lines) : Type 0 where
-  pub candidates : (a : ℕ) → a < p .n → Below 16 (p .candidates a)
+  pub sixteen : p .machines ≤ 16
+  pub candidates : (a : ℕ) → a < p .n → Below (p .machines) (p .candidates a)
+  pub short : (a m : ℕ) → a < p .n → m < p .machines → timeOn p a m < 2 ^ 34
   pub standing : (a : ℕ) → a < p .n → machineOf lines a < 16
   pub lined : (m : ℕ) → Below (p .n) (lineOf lines m)
+
+-- A problem and its lines so seen and open, and a path of its activities.
+pub record Movable (p : Problem) (lines : Lines) (table machines places starts ends tail path : List ℕ) : Type 0 where
+  pub seen : Seen p lines table machines places starts ends tail
+  pub opened : Open p lines
+  pub known : Below (p .n) path
+
+pub record SomeMovable (lines : Lines) (table machines places starts ends tail path : List ℕ) : Type 0 where
+  pub problem : Problem
+  pub movable : Movable problem lines table machines places starts ends tail path

@@ -23,6 +23,8 @@ use Rattle.path.specs.Placing.{Placing, startAt, endAt}
 use Rattle.path.specs.Tails.{after}
 use Rattle.reassign.specs.declared.Way.{Way}
 use Rattle.reassign.specs.declared.Spot.{Spot}
+use Rattle.reassign.specs.declared.Room.{Room}
+use Rattle.reassign.specs.declared.Room.the-variants.{At, Nowhere}
 use Rattle.reassign.specs.declared.Leaving.{Leaving}
 
 -- ---- whether there are any
@@ -96,6 +98,21 @@ leavingOf p lines s tail a =
 abbrev pub wayOf : Leaving → (time : ℕ) → Way
 wayOf l time = record { head = l .head; time = time; rest = l .rest }
 
+-- whether there is a position on a line, and the best of them
+abbrev pub anyPlace : Placing → (line : List ℕ) → (activity : ℕ) → Bool
+anyPlace s line a = leb (firstPlace s line a) (lastPlace s line a)
+
+abbrev pub bestSpot : Placing → (tail line : List ℕ) → Leaving → (time : ℕ) → Spot
+bestSpot s tail line l time =
+    spotOf (lengthAt s tail line (wayOf l time)) (firstPlace s line (l .activity)) (lastPlace s line (l .activity))
+
+abbrev pub roomIf : Bool → Spot → Room
+roomIf true spot = At spot
+roomIf false spot = Nowhere
+
+abbrev pub roomIn : Placing → (tail line : List ℕ) → Leaving → (time : ℕ) → Room
+roomIn s tail line l time = roomIf (anyPlace s line (l .activity)) (bestSpot s tail line l time)
+
 abbrev pub ratedAt : Leaving → (to time : ℕ) → Spot → Rated
 ratedAt l to time spot =
     record { length = spot .length; time = time; made = Reassign (l .activity) (l .machine) (l .place) to (spot .place) }
@@ -107,8 +124,7 @@ oneIf false x = []
 -- no position, no move
 abbrev pub onLine : Placing → (tail line : List ℕ) → Leaving → (to time : ℕ) → List Rated
 onLine s tail line l to time =
-    oneIf (leb (firstPlace s line (l .activity)) (lastPlace s line (l .activity)))
-    (ratedAt l to time (spotOf (lengthAt s tail line (wayOf l time)) (firstPlace s line (l .activity)) (lastPlace s line (l .activity))))
+    oneIf (anyPlace s line (l .activity)) (ratedAt l to time (bestSpot s tail line l time))
 
 -- none to its own machine
 abbrev pub toMachine : Problem → Lines → Placing → (tail : List ℕ) → Leaving → (machine : ℕ) → List Rated

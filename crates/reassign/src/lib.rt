@@ -2,7 +2,7 @@
 mod position;
 
 ghost use mathlib.Core.Path.{_≡_};
-ghost use mathlib.Core.List.{List};
+ghost use mathlib.Core.List.{List, [], _∷_};
 ghost use Prim.Native.Nat.{ℕ, _≤_, _<_, _^_};
 ghost use lib.ListN.{length, getD};
 ghost use Rattle.words.specs.Words.{words};
@@ -16,8 +16,8 @@ ghost use Rattle.moves.specs.Moves.{lineOf, Holds};
 ghost use Rattle.ranking.specs.Ranking.{bestThree, ranked, withAll};
 ghost use Rattle.timing.specs.Placing.{Bound};
 ghost use Rattle.path.specs.Placing.{placed};
-ghost use Rattle.reassign.specs.Reassignments.{flexible, headOf, restOf, timeOn, leavingOf, onLine, toMachine, ofActivity, gathered, reassignments, bestReassignments};
-ghost use Rattle.reassign.specs.Reassigning.{unordered, Counted, Awaited, Reckoned, Ready, Seen, SomeSeen, Open};
+ghost use Rattle.reassign.specs.Reassignments.{flexible, headOf, restOf, leavingOf, roomIn, ratedAt, toMachine, ofActivity, gathered, reassignments, bestReassignments};
+ghost use Rattle.reassign.specs.Reassigning.{unordered, Counted, Awaited, Reckoned, Ready, Able, SomeAble, Seen, SomeSeen, Open, Movable, SomeMovable};
 use moves::Move;
 use plan::Layout;
 use ranking::Rated;
@@ -34,6 +34,12 @@ pub struct Way {
 pub struct Spot {
     pub length: u64,
     pub place: usize,
+}
+
+// Where an activity may go on a line: its best position, if there is any.
+pub enum Room {
+    At(Spot),
+    Nowhere,
 }
 
 // An activity that leaves its machine and its position there, and how long the work is before it and behind it, its line apart.
@@ -81,19 +87,6 @@ fn rest_of(table: &[usize], starts: &[u64], ends: &[u64], tail: &[u64], a: usize
     path::after_all(tables::waiting_for(table, a), starts, ends, tail, step)
 }
 
-// An activity's own three times on a machine.
-fn time_on(s: &[u8], z: Layout, a: usize, m: usize) -> u64
-    requires { ⌜ Placed z × (a < 2 ^ 16) × (m < 2 ^ 16) ⌝ }
-    ensures { λ r. ⌜ r ≡ timeOn (problemOf (words (now (s .entry))) z) a m ⌝ }
-    ensures { λ r. ⌜ r < 2 ^ 34 ⌝ }
-{
-    let t = plan::times_on(s, z, a, m);
-    let setup = t.setup as u64;
-    let process = t.process as u64;
-    let teardown = t.teardown as u64;
-    setup + process + teardown
-}
-
 // An activity as it leaves its machine.
 fn leaving_of(
     table: &[usize],
@@ -118,26 +111,23 @@ fn leaving_of(
     }
 }
 
-// Offers the best position of a line, if there is any.
-fn offer_line(
+// The best position on a line, if there is any.
+fn room_in(
     line: &[usize],
     starts: &[u64],
     ends: &[u64],
     tail: &[u64],
     leaving: Leaving,
-    to: usize,
     time: u64,
-    three: Three,
-) -> Three
-    requires { ⌜ Below (length (now tail)) (now line) × Reckoned (now starts) (now ends) (now tail) × Ready (length (now tail)) leaving × (time < 2 ^ 34) × (three .count ≤ 3) ⌝ }
-    ensures { λ r. ⌜ ranked r ≡ withAll (ranked three) (onLine (unordered (now (starts .entry)) (now (ends .entry))) (now (tail .entry)) (now (line .entry)) leaving to time) ⌝ }
-    ensures { λ r. ⌜ r .count ≤ 3 ⌝ }
+) -> Room
+    requires { ⌜ Below (length (now tail)) (now line) × Reckoned (now starts) (now ends) (now tail) × Ready (length (now tail)) leaving × (time < 2 ^ 34) ⌝ }
+    ensures { λ r. ⌜ r ≡ roomIn (unordered (now (starts .entry)) (now (ends .entry))) (now (tail .entry)) (now (line .entry)) leaving time ⌝ }
 {
     let a = leaving.activity;
     let first = position::leading_ended(line, ends, starts[a]);
     let last = position::leading_begun(line, starts, ends[a]);
     if last < first {
-        return three;
+        return Room::Nowhere;
     }
     let way = Way {
         head: leaving.head,
@@ -145,18 +135,11 @@ fn offer_line(
         rest: leaving.rest,
     };
     let spot = position::best_position(line, starts, ends, tail, way, first, last);
-    let rated = Rated {
-        length: spot.length,
-        time,
-        made: Move::Reassign(a, leaving.machine, leaving.place, to, spot.place),
-    };
-    ranking::keep(three, rated)
+    Room::At(spot)
 }
 
-// Offers one machine that the activity may run on, unless it is its own.
-fn offer_candidate(
-    s: &[u8],
-    z: Layout,
+// The best position on a machine's line, if there is any.
+fn room_on(
     cells: &[usize],
     lens: &[usize; 16],
     starts: &[u64],
@@ -164,35 +147,37 @@ fn offer_candidate(
     tail: &[u64],
     leaving: Leaving,
     to: usize,
-    three: Three,
-) -> Three
-    requires { ⌜ Placed z × Holds (now cells) (now lens) × (to < 16) × Below (length (now tail)) (lineOf (linesIn (now cells) (now lens)) to) ⌝ }
-    requires { ⌜ Reckoned (now starts) (now ends) (now tail) × Ready (length (now tail)) leaving × (length (now tail) ≤ 128) × (three .count ≤ 3) ⌝ }
-    ensures { λ r. ⌜ ranked r ≡ withAll (ranked three) (toMachine (problemOf (words (now (s .entry))) z) (linesIn (now (cells .entry)) (now (lens .entry))) (unordered (now (starts .entry)) (now (ends .entry))) (now (tail .entry)) leaving to) ⌝ }
-    ensures { λ r. ⌜ r .count ≤ 3 ⌝ }
+    time: u64,
+) -> Room
+    requires { ⌜ Holds (now cells) (now lens) × (to < 16) × Below (length (now tail)) (lineOf (linesIn (now cells) (now lens)) to) ⌝ }
+    requires { ⌜ Reckoned (now starts) (now ends) (now tail) × Ready (length (now tail)) leaving × (time < 2 ^ 34) ⌝ }
+    ensures { λ r. ⌜ r ≡ roomIn (unordered (now (starts .entry)) (now (ends .entry))) (now (tail .entry)) (lineOf (linesIn (now (cells .entry)) (now (lens .entry))) to) leaving time ⌝ }
 {
-    if to == leaving.machine {
-        return three;
-    }
-    let time = time_on(s, z, leaving.activity, to);
     let start = 128 * to;
     let end = start + lens[to];
-    offer_line(
-        &cells[start..end],
-        starts,
-        ends,
-        tail,
-        leaving,
-        to,
-        time,
-        three,
-    )
+    room_in(&cells[start..end], starts, ends, tail, leaving, time)
 }
 
-// Offers all machines that the activity may run on.
+// The move to a position of another machine's line, with its rank.
+fn rated_at(leaving: Leaving, to: usize, time: u64, spot: Spot) -> Rated
+    ensures { λ r. ⌜ r ≡ ratedAt leaving to time spot ⌝ }
+{
+    Rated {
+        length: spot.length,
+        time,
+        made: Move::Reassign(
+            leaving.activity,
+            leaving.machine,
+            leaving.place,
+            to,
+            spot.place,
+        ),
+    }
+}
+
+// Offers all machines that the activity may run on, but its own. The three are left alone where a rank does not enter.
 fn offer_candidates(
-    s: &[u8],
-    z: Layout,
+    table: &[usize],
     cells: &[usize],
     lens: &[usize; 16],
     starts: &[u64],
@@ -202,25 +187,34 @@ fn offer_candidates(
     candidates: &[usize],
     three: Three,
 ) -> Three
-    requires { ⌜ Placed z × Holds (now cells) (now lens) × Below 16 (now candidates) × ((m : ℕ) → Below (length (now tail)) (lineOf (linesIn (now cells) (now lens)) m)) ⌝ }
-    requires { ⌜ Reckoned (now starts) (now ends) (now tail) × Ready (length (now tail)) leaving × (length (now tail) ≤ 128) × (three .count ≤ 3) ⌝ }
-    ensures { λ r. ⌜ ranked r ≡ withAll (ranked three) (gathered (toMachine (problemOf (words (now (s .entry))) z) (linesIn (now (cells .entry)) (now (lens .entry))) (unordered (now (starts .entry)) (now (ends .entry))) (now (tail .entry)) leaving) (now (candidates .entry))) ⌝ }
+    requires { ⌜ SomeAble (now table) (leaving .activity) (now candidates) × Holds (now cells) (now lens) × ((m : ℕ) → Below (length (now tail)) (lineOf (linesIn (now cells) (now lens)) m)) ⌝ }
+    requires { ⌜ Reckoned (now starts) (now ends) (now tail) × Ready (length (now tail)) leaving × (three .count ≤ 3) ⌝ }
+    ensures { λ r. ⌜ ((p : Problem) → Able p (now (table .entry)) (leaving .activity) (now (candidates .entry)) → ranked r ≡ withAll (ranked three) (gathered (toMachine p (linesIn (now (cells .entry)) (now (lens .entry))) (unordered (now (starts .entry)) (now (ends .entry))) (now (tail .entry)) leaving) (now (candidates .entry)))) ⌝ }
     ensures { λ r. ⌜ r .count ≤ 3 ⌝ }
 {
     let mut best = three;
     let mut i = 0;
     while i < candidates.len() {
         let to = candidates[i];
-        best = offer_candidate(s, z, cells, lens, starts, ends, tail, leaving, to, best);
         i += 1;
+        if to == leaving.machine {
+            continue;
+        }
+        let time = tables::own_span(table, leaving.activity, to);
+        let room = room_on(cells, lens, starts, ends, tail, leaving, to, time);
+        let Room::At(spot) = room else {
+            continue;
+        };
+        if !ranking::enters(best, spot.length, time) {
+            continue;
+        }
+        best = ranking::keep(best, rated_at(leaving, to, time, spot));
     }
     best
 }
 
 // Offers all moves of one activity.
 fn offer_activity(
-    s: &[u8],
-    z: Layout,
     table: &[usize],
     cells: &[usize],
     lens: &[usize; 16],
@@ -232,16 +226,14 @@ fn offer_activity(
     a: usize,
     three: Three,
 ) -> Three
-    requires { ⌜ Placed z × Holds (now cells) (now lens) × Open (problemOf (words (now s)) z) (linesIn (now cells) (now lens)) × (a < z .activities) × (three .count ≤ 3) ⌝ }
-    requires { ⌜ Seen (problemOf (words (now s)) z) (linesIn (now cells) (now lens)) (now table) (now machines) (now places) (now starts) (now ends) (now tail) ⌝ }
-    ensures { λ r. ⌜ ranked r ≡ withAll (ranked three) (ofActivity (problemOf (words (now (s .entry))) z) (linesIn (now (cells .entry)) (now (lens .entry))) (unordered (now (starts .entry)) (now (ends .entry))) (now (tail .entry)) a) ⌝ }
+    requires { ⌜ Holds (now cells) (now lens) × SomeMovable (linesIn (now cells) (now lens)) (now table) (now machines) (now places) (now starts) (now ends) (now tail) (a ∷ []) × (three .count ≤ 3) ⌝ }
+    ensures { λ r. ⌜ ((p : Problem) → Movable p (linesIn (now (cells .entry)) (now (lens .entry))) (now (table .entry)) (now (machines .entry)) (now (places .entry)) (now (starts .entry)) (now (ends .entry)) (now (tail .entry)) (a ∷ []) → ranked r ≡ withAll (ranked three) (ofActivity p (linesIn (now (cells .entry)) (now (lens .entry))) (unordered (now (starts .entry)) (now (ends .entry))) (now (tail .entry)) a)) ⌝ }
     ensures { λ r. ⌜ r .count ≤ 3 ⌝ }
 {
     let leaving = leaving_of(table, machines, places, starts, ends, tail, a);
     let candidates = tables::candidates_of(table, a);
     offer_candidates(
-        s,
-        z,
+        table,
         cells,
         lens,
         starts,
@@ -255,8 +247,6 @@ fn offer_activity(
 
 // The best three of all moves of the path's activities.
 fn best_on_path(
-    s: &[u8],
-    z: Layout,
     table: &[usize],
     cells: &[usize],
     lens: &[usize; 16],
@@ -267,17 +257,14 @@ fn best_on_path(
     tail: &[u64],
     path: &[usize],
 ) -> Three
-    requires { ⌜ Placed z × Holds (now cells) (now lens) × Open (problemOf (words (now s)) z) (linesIn (now cells) (now lens)) × Below (z .activities) (now path) ⌝ }
-    requires { ⌜ Seen (problemOf (words (now s)) z) (linesIn (now cells) (now lens)) (now table) (now machines) (now places) (now starts) (now ends) (now tail) ⌝ }
-    ensures { λ r. ⌜ ranked r ≡ bestThree (reassignments (problemOf (words (now (s .entry))) z) (linesIn (now (cells .entry)) (now (lens .entry))) (unordered (now (starts .entry)) (now (ends .entry))) (now (tail .entry)) (now (path .entry))) ⌝ }
+    requires { ⌜ Holds (now cells) (now lens) × SomeMovable (linesIn (now cells) (now lens)) (now table) (now machines) (now places) (now starts) (now ends) (now tail) (now path) ⌝ }
+    ensures { λ r. ⌜ ((p : Problem) → Movable p (linesIn (now (cells .entry)) (now (lens .entry))) (now (table .entry)) (now (machines .entry)) (now (places .entry)) (now (starts .entry)) (now (ends .entry)) (now (tail .entry)) (now (path .entry)) → ranked r ≡ bestThree (reassignments p (linesIn (now (cells .entry)) (now (lens .entry))) (unordered (now (starts .entry)) (now (ends .entry))) (now (tail .entry)) (now (path .entry)))) ⌝ }
     ensures { λ r. ⌜ r .count ≤ 3 ⌝ }
 {
     let mut best = ranking::none();
     let mut i = 0;
     while i < path.len() {
         best = offer_activity(
-            s,
-            z,
             table,
             cells,
             lens,
@@ -317,8 +304,6 @@ pub fn reassignments(
 {
     if choices {
         return best_on_path(
-            s,
-            z,
             table,
             cells,
             lens,

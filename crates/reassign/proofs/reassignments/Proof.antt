@@ -13,11 +13,11 @@ use Rattle.reassign.proofs.reassignments.Statement.{statement}
 use Rattle.reassign.proofs.reassignments.Tie as tie
 
 best-on-path-requires : tie.Need-best-on-path-requires
-best-on-path-requires c κs = search needs
+best-on-path-requires c κs = (c .before .before .before .before .before .before .before .before .before .before .pre .0 .2, record { problem = (problemOf (words (now (c .before .before .before .before .before .before .before .before .before .before .args .s))) (c .before .before .before .before .before .before .before .before .before .before .args .z)); movable = record { seen = c .before .before .before .before .before .before .before .before .before .before .pre .1; opened = c .before .before .before .before .before .before .before .before .before .before .pre .0 .3; known = c .before .before .before .before .before .before .before .before .before .before .pre .0 .4 } })
 
 returns : tie.Need-returns
 returns c =
-    (λ order. c .best-on-path .ensures .0 ∙ by-choice (bestThree (reassignments (problemOf (words (now (c .before .before .before .before .before .before .before .before .before .before .before .args .s))) (c .before .before .before .before .before .before .before .before .before .before .before .args .z)) (linesIn (now (c .before .before .before .before .before .before .before .before .before .before .before .args .cells)) (now (c .before .before .before .before .before .before .before .before .before .before .before .args .lens))) (placed order (now (c .before .before .before .before .before .before .before .before .before .before .before .args .starts)) (now (c .before .before .before .before .before .before .before .before .before .before .before .args .ends))) (now (c .before .before .before .before .before .before .before .before .before .before .before .args .tail)) (now (c .before .before .before .before .before .before .before .before .before .before .before .args .path)))) (c .before .before .before .before .before .before .before .before .before .before .before .pre .0 .0) (c .before .if1 .taken), c .best-on-path .ensures .1)
+    (λ order. c .best-on-path .ensures .0 (problemOf (words (now (c .before .before .before .before .before .before .before .before .before .before .before .args .s))) (c .before .before .before .before .before .before .before .before .before .before .before .args .z)) (record { seen = c .before .before .before .before .before .before .before .before .before .before .before .pre .1; opened = c .before .before .before .before .before .before .before .before .before .before .before .pre .0 .3; known = c .before .before .before .before .before .before .before .before .before .before .before .pre .0 .4 }) ∙ by-choice (bestThree (reassignments (problemOf (words (now (c .before .before .before .before .before .before .before .before .before .before .before .args .s))) (c .before .before .before .before .before .before .before .before .before .before .before .args .z)) (linesIn (now (c .before .before .before .before .before .before .before .before .before .before .before .args .cells)) (now (c .before .before .before .before .before .before .before .before .before .before .before .args .lens))) (placed order (now (c .before .before .before .before .before .before .before .before .before .before .before .args .starts)) (now (c .before .before .before .before .before .before .before .before .before .before .before .args .ends))) (now (c .before .before .before .before .before .before .before .before .before .before .before .args .tail)) (now (c .before .before .before .before .before .before .before .before .before .before .before .args .path)))) (c .before .before .before .before .before .before .before .before .before .before .before .pre .0 .0) (c .before .if1 .taken), c .best-on-path .ensures .1)
 
 none-requires : tie.Need-none-requires
 none-requires c κs = search needs

@@ -1,12 +1,14 @@
 -- `blocks::offers::offer_shifts` meets its contract. The loop's invariant: the shifts from the positions so far were offered.
 use Prim.Native.Nat.{_-_, _≤_}
-use mathlib.Core.Path.{_≡_, refl}
+use mathlib.Core.Path.{_≡_, refl, sym, _∙_}
 use native.Mathlib.Omega.{arith}
 use lib.ListN.{length}
+use Rattle.graph.proofs.BoolLaws.{denied}
+use Rattle.moves.specs.declared.Move.the-variants.{Shift}
 use Rattle.ranking.specs.Ranking.{ranked}
 use Rattle.blocks.specs.BlockMoves.{shifts}
 use Rattle.blocks.specs.Scanning.{Offers}
-use Rattle.blocks.proofs.OfferLaws.{shifts-begin, offers-shift}
+use Rattle.blocks.proofs.OfferLaws.{shifts-begin, offers-one, offers-out, offers-shift, shift-rank}
 use borrow.Author.Needs.{needs}
 use Rattle.blocks.proofs.offers.offer_shifts.Statement.{statement}
 use Rattle.blocks.proofs.offers.offer_shifts.Tie as tie
@@ -26,18 +28,35 @@ abbrev μ-loop : tie.MeasureT-loop
 loop-holds : tie.Need-loop-holds Inv-loop μ-loop
 loop-holds c = (omega arith, c .before .before .before .before .before .before .pre .2, refl, c .before .before .before .before .before .before .pre .5, shifts-begin (c .before .before .before .before .before .before .args .to) (c .before .before .before .before .before .before .args .from))
 
-offer-shift-requires : tie.Need-offer-shift-requires Inv-loop μ-loop
-offer-shift-requires c κs = let i = c .before .before .loop .inv in (c .before .before .before .before .before .before .before .before .before .pre .0, omega (arith, c .before .before .before .before .before .before .before .before .before .pre .3), c .before .before .before .before .before .before .before .before .before .pre .1, omega (arith, i .2, c .before .before .before .before .before .before .before .before .before .pre .4), i .3)
-
 add-at : tie.Need-add-at Inv-loop μ-loop
 add-at c = search needs
 
+weigh-requires : tie.Need-weigh-requires Inv-loop μ-loop
+weigh-requires c κs = (c .before .before .before .before .before .before .before .before .before .pre .0, omega (arith, c .before .loop-test .taken, c .before .before .before .before .before .before .before .before .before .pre .3), c .before .before .before .before .before .before .before .before .before .pre .1, omega (arith, c .before .before .loop .inv .2, c .before .before .before .before .before .before .before .before .before .pre .4))
+
+enters-requires : tie.Need-enters-requires Inv-loop μ-loop
+enters-requires c κs = search needs
+
 loop-less : tie.Need-loop-less Inv-loop μ-loop
-loop-less c = search needs
+loop-less c = omega (arith, c .before .before .before .before .before .before .loop-test .taken)
 
 loop-again : tie.Need-loop-again Inv-loop μ-loop
 loop-again c =
-    let i = c .before .before .before .before .before .loop .inv in (omega (arith, i .0), omega arith, omega (arith, c .before .before .offer-shift .kept .1 .1 .1 .1 .1 .1 .1 .1 .1 .0, i .2), c .before .before .offer-shift .ensures .1, offers-shift (c .before .before .before .before .before .before .before .before .before .before .before .before .args .to) (c .before .before .before .before .before .before .before .before .before .before .before .before .args .from) (c .before .before .before .before .before .loop .at) (i .0) (i .4) (c .before .before .offer-shift .ensures .0))
+    let i = c .before .before .before .before .before .before .before .loop .inv in
+    let one = offers-out (Shift (c .before .before .before .before .before .before .before .before .before .before .before .before .before .before .args .m) (c .before .before .before .before .before .before .before .loop .at) (c .before .before .before .before .before .before .before .before .before .before .before .before .before .before .args .to)) (c .before .before .before .before .before .before .before .loop .best) (c .before .before .before .before .weigh .result) (i .3) (sym (c .before .enters .ensures) ∙ denied _ (c .if1 .taken)) (λ p lines order r. shift-rank (c .before .before .before .before .before .before .before .before .before .before .before .before .before .before .args .all) r order (c .before .before .before .before .before .before .before .loop .at) (c .before .before .before .before .before .before .before .before .before .before .before .before .before .before .args .to) (c .before .before .before .before .weigh .result) (c .before .before .before .before .weigh .ensures p order (r .weighed) (r .low) (r .lined))) in
+    (omega (arith, i .0), omega (arith, c .before .before .before .before .before .before .loop-test .taken), omega (arith, c .before .before .before .before .weigh .kept .1 .1 .1 .1 .1 .1 .1 .1 .0, i .2), i .3, offers-shift (c .before .before .before .before .before .before .before .before .before .before .before .before .before .before .args .to) (c .before .before .before .before .before .before .before .before .before .before .before .before .before .before .args .from) (c .before .before .before .before .before .before .before .loop .at) (i .0) (i .4) one)
+
+keep-requires : tie.Need-keep-requires Inv-loop μ-loop
+keep-requires c κs = c .before .before .before .before .before .before .before .loop .inv .3
+
+loop-less-2 : tie.Need-loop-less-2 Inv-loop μ-loop
+loop-less-2 c = omega (arith, c .before .before .before .before .before .before .before .loop-test .taken)
+
+loop-again-2 : tie.Need-loop-again-2 Inv-loop μ-loop
+loop-again-2 c =
+    let i = c .before .before .before .before .before .before .before .before .loop .inv in
+    let one = offers-one (Shift (c .before .before .before .before .before .before .before .before .before .before .before .before .before .before .before .args .m) (c .before .before .before .before .before .before .before .before .loop .at) (c .before .before .before .before .before .before .before .before .before .before .before .before .before .before .before .args .to)) (record { length = c .before .before .before .before .before .weigh .result; time = 0; made = Shift (c .before .before .before .before .before .before .before .before .before .before .before .before .before .before .before .args .m) (c .before .before .before .before .before .before .before .before .loop .at) (c .before .before .before .before .before .before .before .before .before .before .before .before .before .before .before .args .to) }) (λ p lines order r. shift-rank (c .before .before .before .before .before .before .before .before .before .before .before .before .before .before .before .args .all) r order (c .before .before .before .before .before .before .before .before .loop .at) (c .before .before .before .before .before .before .before .before .before .before .before .before .before .before .before .args .to) (c .before .before .before .before .before .weigh .result) (c .before .before .before .before .before .weigh .ensures p order (r .weighed) (r .low) (r .lined))) (c .keep .ensures .0) in
+    (omega (arith, i .0), omega (arith, c .before .before .before .before .before .before .before .loop-test .taken), omega (arith, c .before .before .before .before .before .weigh .kept .1 .1 .1 .1 .1 .1 .1 .1 .0, i .2), c .keep .ensures .1, offers-shift (c .before .before .before .before .before .before .before .before .before .before .before .before .before .before .before .args .to) (c .before .before .before .before .before .before .before .before .before .before .before .before .before .before .before .args .from) (c .before .before .before .before .before .before .before .before .loop .at) (i .0) (i .4) one)
 
 same-length : tie.Need-same-length Inv-loop μ-loop
 same-length c = search needs
@@ -55,9 +74,13 @@ offer-shifts-spec =
     Inv-loop
     μ-loop
     loop-holds
-    offer-shift-requires
     add-at
+    weigh-requires
+    enters-requires
     loop-less
     loop-again
+    keep-requires
+    loop-less-2
+    loop-again-2
     same-length
     returns)

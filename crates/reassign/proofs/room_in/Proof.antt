@@ -1,17 +1,14 @@
--- `reassign::offer_line` meets its contract. None is offered where the last position is before the first; else the best one is.
+-- `reassign::room_in` meets its contract. There is none where the last position is before the first; else the best one is answered.
 use Prim.Native.Nat.{_<_, _^_}
 use native.Mathlib.Omega.{arith}
 use denote.Ref.{now}
 use lib.ListN.{length, getD}
 use lib.Dec.{ltb}
-use Rattle.ranking.specs.Ranking.{ranked}
-use Rattle.reassign.specs.Reassignments.{firstPlace, lastPlace, lengthAt, wayOf, ratedAt, spotOf}
 use Rattle.reassign.specs.Reassigning.{unordered}
 use Rattle.reassign.proofs.PositionLaws.{leading-few}
-use Rattle.reassign.proofs.OfferLaws.{none-offered, one-offered}
-use borrow.Author.Needs.{needs}
-use Rattle.reassign.proofs.offer_line.Statement.{statement}
-use Rattle.reassign.proofs.offer_line.Tie as tie
+use Rattle.reassign.proofs.RoomLaws.{no-room, some-room}
+use Rattle.reassign.proofs.room_in.Statement.{statement}
+use Rattle.reassign.proofs.room_in.Tie as tie
 
 mul-leading-ended : tie.Need-mul-leading-ended
 mul-leading-ended c = let r = c .before .before .before .before .pre .1 .addable in omega (arith, c .before .before .before .before .pre .2 .known, r .started, r .ended)
@@ -34,11 +31,7 @@ leading-begun-requires c κs = rw (c .before .before .before .before .before .be
 returns : tie.Need-returns
 returns c =
     let a = c .before .before .before .before .before .before .before .before .before .args in
-    let s = unordered (now (a .starts)) (now (a .ends)) in
-    let first = firstPlace s (now (a .line)) (a .leaving .activity) in
-    let last = lastPlace s (now (a .line)) (a .leaving .activity) in
-    let lengths = lengthAt s (now (a .tail)) (now (a .line)) (wayOf (a .leaving) (a .time)) in
-    (none-offered (ranked (a .three)) (ratedAt (a .leaving) (a .to) (a .time) (spotOf lengths first last)) first last (c .before .before .before .leading-ended .ensures) (c .before .leading-begun .ensures) (c .if1 .taken), c .before .before .before .before .before .before .before .before .before .pre .4)
+    no-room (unordered (now (a .starts)) (now (a .ends))) (now (a .tail)) (now (a .line)) (a .leaving) (a .time) (c .before .before .before .leading-ended .ensures) (c .before .leading-begun .ensures) (c .if1 .taken)
 
 best-position-requires : tie.Need-best-position-requires
 best-position-requires c κs =
@@ -46,20 +39,13 @@ best-position-requires c κs =
     let n : length (now (b .args .line)) < 2 ^ 62 = omega (arith, b .good) in
     (b .pre .0, b .pre .1, record { head = b .pre .2 .head; time = b .pre .3; rest = b .pre .2 .rest }, c .if1 .left, omega (arith, c .before .leading-begun .ensures, leading-few (λ x. ltb (getD (now (b .args .starts)) x 0) (getD (now (b .args .ends)) (b .args .leaving .activity) 0)) (now (b .args .line))))
 
-keep-requires : tie.Need-keep-requires
-keep-requires c κs = search needs
-
 returns-2 : tie.Need-returns-2
 returns-2 c =
-    let a = c .before .before .before .before .before .before .before .before .before .before .before .args in
-    let s = unordered (now (a .starts)) (now (a .ends)) in
-    let first = firstPlace s (now (a .line)) (a .leaving .activity) in
-    let last = lastPlace s (now (a .line)) (a .leaving .activity) in
-    let lengths = lengthAt s (now (a .tail)) (now (a .line)) (wayOf (a .leaving) (a .time)) in
-    (one-offered (ranked (a .three)) lengths (a .leaving) (a .to) (a .time) first last (c .before .before .before .before .before .leading-ended .ensures) (c .before .before .before .leading-begun .ensures) (c .before .before .if1 .left) (c .before .best-position .ensures) (c .keep .ensures .0), c .keep .ensures .1)
+    let a = c .before .before .before .before .before .before .before .before .before .before .args in
+    some-room (unordered (now (a .starts)) (now (a .ends))) (now (a .tail)) (now (a .line)) (a .leaving) (a .time) (c .before .before .before .before .leading-ended .ensures) (c .before .before .leading-begun .ensures) (c .before .if1 .left) (c .best-position .ensures)
 
-pub offer-line-spec : {M : Type 1} → statement M
-offer-line-spec =
+pub room-in-spec : {M : Type 1} → statement M
+room-in-spec =
     tie.close
     (tie.spec
     mul-leading-ended
@@ -70,5 +56,4 @@ offer-line-spec =
     leading-begun-requires
     returns
     best-position-requires
-    keep-requires
     returns-2)
