@@ -171,6 +171,10 @@ module _ {p : Problem} {g : Genes} (ok : Accepted p g) {on ends lines steps : Li
   held-next : (u : ℕ) → heldIn kept₁ u ≡ heldIn kept₀ u
   held-next u = getD-set-other kept₀ t (64 + u) a 0 (λ e. omega (arith, e, low))
 
+  -- whose seat is kept waits for none
+  held-free : heldIn kept₁ t ≡ a → a < p .n → anyUnsettled settled (p .predecessors a) ≡ false
+  held-free q h = subst (λ (x : ℕ). anyUnsettled settled (p .predecessors x) ≡ false) q (kept-next .holds t ht (omega (arith, q, h)) .free)
+
   task-over : lastIn kept₀ t ≤ a → ScannedTask p g t settled₀ kept₀ settled kept₁ ends lines steps false
   task-over h =
       record {
@@ -384,6 +388,9 @@ module _ {p : Problem} {g : Genes} (ok : Accepted p g) {settled₀ offered₀ se
 
   pub left-at-end : lastIn kept₁ t ≤ a → Scanning p g settled₀ offered₀ settled (set kept t a) ends lines steps offered found (t + 1)
   left-at-end l = skipped (task-over ok manned t ht (o .keeping) (w .passing) l)
+
+  pub free-if-held : a < p .n → heldIn (set kept t a) t ≡ a → anyUnsettled settled (p .predecessors a) ≡ false
+  free-if-held h q = held-free ok manned t ht (o .keeping) (w .passing) (ap (λ (k : List ℕ). heldIn (set k t a) t) (sym (w .keeps)) ∙ q) h
 
   module _ (l : a < lastIn kept₁ t) (stops : stopsHere on settled a ≡ true) where
     pub left-waiting : anyUnsettled settled (p .predecessors a) ≡ true → Scanning p g settled₀ offered₀ settled (set kept t a) ends lines steps offered found (t + 1)

@@ -1,21 +1,21 @@
 // One scan of the tasks: each stops at its first step that is not settled and has a machine.
+use crate::seats::ACTIVITY_ROW;
 use crate::seats::LAST_ROW;
 use crate::seats::keep_seat;
 use plan::Layout;
 ghost use mathlib.Core.Path.{_≡_};
+ghost use mathlib.Core.Bool.{false};
 ghost use Prim.Native.Nat.{_+_, _≤_, _<_};
 ghost use lib.ListN.{length, take};
 ghost use Rattle.words.specs.Words.{words};
 ghost use Rattle.graph.specs.Counting.{Below};
-ghost use Rattle.plan.specs.Problem.{Problem};
 ghost use Rattle.plan.specs.Input.{problemOf, genesOf};
 ghost use Rattle.plan.specs.Found.{Placed};
 ghost use Rattle.plan.specs.Accepted.{Accepted};
 ghost use Rattle.tables.specs.Tabled.{Tabled};
-ghost use Rattle.in_order.specs.Waiting.{Naming};
 ghost use Rattle.active.specs.Active.{rankedFrom, anyUnsettled};
-ghost use Rattle.active.specs.Kept.{stopsHere, Manned, Kept, ScannedAll};
-ghost use Rattle.active.specs.Asked.{Timely, Flagged};
+ghost use Rattle.active.specs.Kept.{stopsHere, Manned, heldIn, Kept, ScannedAll};
+ghost use Rattle.active.specs.Asked.{Timely};
 
 // Gives each of the order its place as its rank.
 pub fn put_ranks(activities: &[usize], ranks: &mut [usize])
@@ -46,11 +46,24 @@ fn any_unsettled(list: &[usize], settled: &[usize]) -> bool
     false
 }
 
-// Whether an activity waits for a predecessor.
-fn waits(table: &[usize], settled: &[usize], a: usize) -> bool
-    requires { ⌜ Flagged (now table) (now settled) a ⌝ }
-    ensures { λ r. ⌜ ((p : Problem) → Naming p (now (table .entry)) → a < p .n → r ≡ anyUnsettled (now (settled .entry)) (p .predecessors a)) ⌝ }
+// Whether a task's next activity waits for a predecessor; one whose seat is kept does not.
+fn waits(
+    s: &[u8],
+    z: Layout,
+    table: &[usize],
+    t: usize,
+    a: usize,
+    settled: &[usize],
+    kept: &[usize],
+) -> bool
+    requires { ⌜ Accepted (problemOf (words (now s)) z) (genesOf (words (now s)) z) × Tabled (problemOf (words (now s)) z) (now table) × (a < z .activities) × (t < 32) ⌝ }
+    requires { ⌜ (length (now settled) ≡ z .activities) × (length (now kept) ≡ 224) ⌝ }
+    requires { ⌜ (heldIn (now kept) t ≡ a → anyUnsettled (now settled) (problemOf (words (now s)) z .predecessors a) ≡ false) ⌝ }
+    ensures { λ r. ⌜ r ≡ anyUnsettled (now (settled .entry)) (problemOf (words (now (s .entry))) z .predecessors a) ⌝ }
 {
+    if kept[ACTIVITY_ROW + t] == a {
+        return false;
+    }
     any_unsettled(tables::named_by(table, a), settled)
 }
 
@@ -97,7 +110,7 @@ pub fn scan(
                 continue;
             }
             kept[task] = a;
-            if waits(table, settled, a) {
+            if waits(s, z, table, task, a, settled, kept) {
                 continue 'tasks;
             }
             keep_seat(s, z, table, ends, lines, steps, task, a, kept);

@@ -18,7 +18,7 @@ ghost use Rattle.active.specs.Asked.{Timely};
 // Where each row of what is kept begins, after the first, which says how far a task is passed.
 pub const LAST_ROW: usize = 32;
 
-const ACTIVITY_ROW: usize = 64;
+pub const ACTIVITY_ROW: usize = 64;
 
 const MACHINE_ROW: usize = 96;
 

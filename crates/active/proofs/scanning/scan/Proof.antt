@@ -1,5 +1,5 @@
 -- `active::scanning::scan` meets its contract. Both loops' invariants: what is left to scan gives, upon what was scanned, what the whole does.
-use Prim.Native.Nat.{_-_, _≤_}
+use Prim.Native.Nat.{_-_, _≤_, _<_}
 use mathlib.Core.Path.{refl, sym, ap, _∙_}
 use native.Mathlib.Omega.{arith}
 use denote.Ref.{now}
@@ -8,9 +8,8 @@ use lib.Seq.{length-take-le}
 use Rattle.words.specs.Words.{words}
 use Rattle.plan.specs.Input.{problemOf, genesOf}
 use Rattle.genes.proofs.TaskLaws.{task-within}
-use Rattle.in_order.proofs.OrderLaws.{naming-of}
 use Rattle.active.proofs.RankLaws.{denied, granted}
-use Rattle.active.proofs.ScanLaws.{Stepping, pass-begin, pass-again, Scanning, scan-begin, scan-end, left-at-end, left-waiting, left-found}
+use Rattle.active.proofs.ScanLaws.{Stepping, pass-begin, pass-again, Scanning, scan-begin, scan-end, free-if-held, left-at-end, left-waiting, left-found}
 use Rattle.active.proofs.scanning.scan.Statement.{statement}
 use Rattle.active.proofs.scanning.scan.Tie as tie
 
@@ -143,73 +142,69 @@ slice-write-kept c =
 
 waits-requires : tie.Need-waits-requires Inv-loop μ-loop Inv-tasks μ-tasks
 waits-requires c κs =
-    let e = c .before .before .before .before .before .before .before .before .before .before .before .before .before .before .before .before .before .before .before .before in
-    let o = c .before .before .before .before .before .before .before .before .before .before .tasks in
-    let h = c .before .before .before .before .before .before .before .before .if1 .taken in
+    let e = c .before .before .before .before .before .before .before .before .before .before .before .before .before .before .before .before .before .before .before .before .before in
+    let o = c .before .before .before .before .before .before .before .before .before .before .before .tasks in
+    let h = c .before .before .before .before .before .before .before .before .before .if1 .taken in
     let k = o .inv .keeping .fronts .last (o .t) h in
     let n = task-within (e .pre .0 .1) (o .t) h in
-    let l = c .before .before .before .before .before .loop in
-    record { problem = (problemOf (words (now (e .args .s))) (e .args .z)); naming = naming-of (e .pre .0 .1) (e .pre .0 .2); roomy = omega (arith, l .inv .passing .sized, o .inv .flags, e .pre .1 .1 .0); here = omega (arith, c .before .before .before .before .loop-test .taken, k, n) }
+    let l = c .before .before .before .before .before .before .loop in
+    let here : l .a < e .args .z .activities = omega (arith, c .before .before .before .before .before .loop-test .taken, k, n) in
+    ((e .pre .0 .1, e .pre .0 .2, here, omega (arith, h, e .pre .0 .1 .tasks .1)), ((omega (arith, l .inv .passing .sized, o .inv .flags, e .pre .1 .1 .0), length-set (l .kept) (o .t) (l .a) ∙ ap length (l .inv .keeps) ∙ o .inv .keeping .sized), free-if-held (e .pre .0 .1) (o .inv) h (e .pre .1 .0 .0) (l .inv) here))
 
 tasks-less : tie.Need-tasks-less Inv-loop μ-loop Inv-tasks μ-tasks
-tasks-less c = omega (arith, c .before .before .before .before .before .before .before .before .before .before .if1 .taken)
+tasks-less c = omega (arith, c .before .before .before .before .before .before .before .before .before .before .before .if1 .taken)
 
 tasks-again : tie.Need-tasks-again Inv-loop μ-loop Inv-tasks μ-tasks
 tasks-again c =
-    let e = c .before .before .before .before .before .before .before .before .before .before .before .before .before .before .before .before .before .before .before .before .before .before in
-    let o = c .before .before .before .before .before .before .before .before .before .before .before .before .tasks in
-    let h = c .before .before .before .before .before .before .before .before .before .before .if1 .taken in
-    let k = o .inv .keeping .fronts .last (o .t) h in
-    let n = task-within (e .pre .0 .1) (o .t) h in
-    let l = c .before .before .before .before .before .before .before .loop in
-    left-waiting (e .pre .0 .1) (o .inv) h (e .pre .1 .0 .0) (l .inv) (c .before .before .before .before .before .before .loop-test .taken) (sym (c .before .before .before .before .stops .ensures) ∙ granted (c .before .before .before .before .stops .result) (c .before .before .before .if2 .left)) (sym (c .before .waits .ensures (problemOf (words (now (e .args .s))) (e .args .z)) (naming-of (e .pre .0 .1) (e .pre .0 .2)) (omega (arith, c .before .before .before .before .before .before .loop-test .taken, k, n))) ∙ c .if3 .taken)
+    let e = c .before .before .before .before .before .before .before .before .before .before .before .before .before .before .before .before .before .before .before .before .before .before .before in
+    let o = c .before .before .before .before .before .before .before .before .before .before .before .before .before .tasks in
+    let l = c .before .before .before .before .before .before .before .before .loop in
+    left-waiting (e .pre .0 .1) (o .inv) (c .before .before .before .before .before .before .before .before .before .before .before .if1 .taken) (e .pre .1 .0 .0) (l .inv) (c .before .before .before .before .before .before .before .loop-test .taken) (sym (c .before .before .before .before .before .stops .ensures) ∙ granted (c .before .before .before .before .before .stops .result) (c .before .before .before .before .if2 .left)) (sym (c .before .waits .ensures) ∙ c .if3 .taken)
 
 keep-seat-requires : tie.Need-keep-seat-requires Inv-loop μ-loop Inv-tasks μ-tasks
 keep-seat-requires c κs =
-    let e = c .before .before .before .before .before .before .before .before .before .before .before .before .before .before .before .before .before .before .before .before .before .before .before in
-    let o = c .before .before .before .before .before .before .before .before .before .before .before .before .before .tasks in
-    let h = c .before .before .before .before .before .before .before .before .before .before .before .if1 .taken in
+    let e = c .before .before .before .before .before .before .before .before .before .before .before .before .before .before .before .before .before .before .before .before .before .before .before .before in
+    let o = c .before .before .before .before .before .before .before .before .before .before .before .before .before .before .tasks in
+    let h = c .before .before .before .before .before .before .before .before .before .before .before .before .if1 .taken in
     let k = o .inv .keeping .fronts .last (o .t) h in
     let n = task-within (e .pre .0 .1) (o .t) h in
-    let l = c .before .before .before .before .before .before .before .before .loop in
-    (e .pre .0, (omega (arith, c .before .before .before .before .before .before .before .loop-test .taken, k, n), e .pre .1 .0 .1, length-set (l .kept) (o .t) (l .a) ∙ ap length (l .inv .keeps) ∙ o .inv .keeping .sized, omega (arith, h, e .pre .0 .1 .tasks .1)))
+    let l = c .before .before .before .before .before .before .before .before .before .loop in
+    (e .pre .0, (omega (arith, c .before .before .before .before .before .before .before .before .loop-test .taken, k, n), e .pre .1 .0 .1, length-set (l .kept) (o .t) (l .a) ∙ ap length (l .inv .keeps) ∙ o .inv .keeping .sized, omega (arith, h, e .pre .0 .1 .tasks .1)))
 
 mul-offered : tie.Need-mul-offered Inv-loop μ-loop Inv-tasks μ-tasks
 mul-offered c =
-    let e = c .before .before .before .before .before .before .before .before .before .before .before .before .before .before .before .before .before .before .before .before .before .before .before .before .before .before in
-    let o = c .before .before .before .before .before .before .before .before .before .before .before .before .before .before .before .before .tasks in
-    let l = c .before .before .before .before .before .before .before .before .before .before .before .loop in
-    let h = c .before .before .before .before .before .before .before .before .before .before .before .before .before .before .if1 .taken in
+    let e = c .before .before .before .before .before .before .before .before .before .before .before .before .before .before .before .before .before .before .before .before .before .before .before .before .before .before .before in
+    let o = c .before .before .before .before .before .before .before .before .before .before .before .before .before .before .before .before .before .tasks in
+    let l = c .before .before .before .before .before .before .before .before .before .before .before .before .loop in
+    let h = c .before .before .before .before .before .before .before .before .before .before .before .before .before .before .before .if1 .taken in
     omega (arith, h, e .pre .0 .1 .tasks .1, o .inv .fewer, l .inv .finds, o .inv .cells, ap length (l .inv .offers), e .pre .1 .0 .2)
 
 slice-write-offered : tie.Need-slice-write-offered Inv-loop μ-loop Inv-tasks μ-tasks
 slice-write-offered c =
-    let e = c .before .before .before .before .before .before .before .before .before .before .before .before .before .before .before .before .before .before .before .before .before .before .before .before .before .before in
-    let o = c .before .before .before .before .before .before .before .before .before .before .before .before .before .before .before .before .tasks in
-    let l = c .before .before .before .before .before .before .before .before .before .before .before .loop in
-    let h = c .before .before .before .before .before .before .before .before .before .before .before .before .before .before .if1 .taken in
+    let e = c .before .before .before .before .before .before .before .before .before .before .before .before .before .before .before .before .before .before .before .before .before .before .before .before .before .before .before in
+    let o = c .before .before .before .before .before .before .before .before .before .before .before .before .before .before .before .before .before .tasks in
+    let l = c .before .before .before .before .before .before .before .before .before .before .before .before .loop in
+    let h = c .before .before .before .before .before .before .before .before .before .before .before .before .before .before .before .if1 .taken in
     omega (arith, h, e .pre .0 .1 .tasks .1, o .inv .fewer, l .inv .finds, o .inv .cells, ap length (l .inv .offers), e .pre .1 .0 .2)
 
 add-found : tie.Need-add-found Inv-loop μ-loop Inv-tasks μ-tasks
 add-found c =
-    let e = c .before .before .before .before .before .before .before .before .before .before .before .before .before .before .before .before .before .before .before .before .before .before .before .before .before .before in
-    let o = c .before .before .before .before .before .before .before .before .before .before .before .before .before .before .before .before .tasks in
-    let l = c .before .before .before .before .before .before .before .before .before .before .before .loop in
-    let h = c .before .before .before .before .before .before .before .before .before .before .before .before .before .before .if1 .taken in
+    let e = c .before .before .before .before .before .before .before .before .before .before .before .before .before .before .before .before .before .before .before .before .before .before .before .before .before .before .before in
+    let o = c .before .before .before .before .before .before .before .before .before .before .before .before .before .before .before .before .before .tasks in
+    let l = c .before .before .before .before .before .before .before .before .before .before .before .before .loop in
+    let h = c .before .before .before .before .before .before .before .before .before .before .before .before .before .before .before .if1 .taken in
     omega (arith, h, e .pre .0 .1 .tasks .1, o .inv .fewer, l .inv .finds, o .inv .cells, ap length (l .inv .offers), e .pre .1 .0 .2)
 
 tasks-less-2 : tie.Need-tasks-less-2 Inv-loop μ-loop Inv-tasks μ-tasks
-tasks-less-2 c = omega (arith, c .before .before .before .before .before .before .before .before .before .before .before .before .before .before .if1 .taken)
+tasks-less-2 c = omega (arith, c .before .before .before .before .before .before .before .before .before .before .before .before .before .before .before .if1 .taken)
 
 tasks-again-2 : tie.Need-tasks-again-2 Inv-loop μ-loop Inv-tasks μ-tasks
 tasks-again-2 c =
-    let e = c .before .before .before .before .before .before .before .before .before .before .before .before .before .before .before .before .before .before .before .before .before .before .before .before .before .before in
-    let o = c .before .before .before .before .before .before .before .before .before .before .before .before .before .before .before .before .tasks in
-    let h = c .before .before .before .before .before .before .before .before .before .before .before .before .before .before .if1 .taken in
-    let k = o .inv .keeping .fronts .last (o .t) h in
-    let n = task-within (e .pre .0 .1) (o .t) h in
-    let l = c .before .before .before .before .before .before .before .before .before .before .before .loop in
-    left-found (e .pre .0 .1) (o .inv) h (e .pre .1 .0 .0) (l .inv) (c .before .before .before .before .before .before .before .before .before .before .loop-test .taken) (sym (c .before .before .before .before .before .before .before .before .stops .ensures) ∙ granted (c .before .before .before .before .before .before .before .before .stops .result) (c .before .before .before .before .before .before .before .if2 .left)) (sym (c .before .before .before .before .before .waits .ensures (problemOf (words (now (e .args .s))) (e .args .z)) (naming-of (e .pre .0 .1) (e .pre .0 .2)) (omega (arith, c .before .before .before .before .before .before .before .before .before .before .loop-test .taken, k, n))) ∙ c .before .before .before .before .if3 .left) (omega (arith, h, e .pre .0 .1 .tasks .1, o .inv .fewer, l .inv .finds, o .inv .cells, ap length (l .inv .offers), e .pre .1 .0 .2)) (c .before .before .keep-seat .ensures)
+    let e = c .before .before .before .before .before .before .before .before .before .before .before .before .before .before .before .before .before .before .before .before .before .before .before .before .before .before .before in
+    let o = c .before .before .before .before .before .before .before .before .before .before .before .before .before .before .before .before .before .tasks in
+    let l = c .before .before .before .before .before .before .before .before .before .before .before .before .loop in
+    let h = c .before .before .before .before .before .before .before .before .before .before .before .before .before .before .before .if1 .taken in
+    left-found (e .pre .0 .1) (o .inv) h (e .pre .1 .0 .0) (l .inv) (c .before .before .before .before .before .before .before .before .before .before .before .loop-test .taken) (sym (c .before .before .before .before .before .before .before .before .before .stops .ensures) ∙ granted (c .before .before .before .before .before .before .before .before .before .stops .result) (c .before .before .before .before .before .before .before .before .if2 .left)) (sym (c .before .before .before .before .before .waits .ensures) ∙ c .before .before .before .before .if3 .left) (omega (arith, h, e .pre .0 .1 .tasks .1, o .inv .fewer, l .inv .finds, o .inv .cells, ap length (l .inv .offers), e .pre .1 .0 .2)) (c .before .before .keep-seat .ensures)
 
 mul-kept-2 : tie.Need-mul-kept-2 Inv-loop μ-loop Inv-tasks μ-tasks
 mul-kept-2 c =
