@@ -1,19 +1,18 @@
 -- What is kept: cells that are written leave the others as they are, and a seat that is kept is still the activity's seat after another was
 -- placed, on another machine and of another task.
 use Prim.Native.Nat.{ℕ, zero, suc, _+_, _-_, _≤_, _<_}
-use mathlib.Core.Path.{_≡_, refl, sym, ap, ap₂, _∙_, subst}
+use mathlib.Core.Path.{_≡_, refl, sym, ap, _∙_, subst}
 use mathlib.Core.Bool.{Bool, true, false, cond, not, _||_}
-use mathlib.Core.List.{List, [], _∷_, _++_}
+use mathlib.Core.List.{List, [], _∷_}
 use mathlib.Core.Option.{Option, none, some}
 use native.Mathlib.Omega.{arith}
 use native.Mathlib.Numerals.{add-one}
-use borrow.Author.Tests.{eqb-true, eqb-false, ltb-true, ltb-false, lt-ltb, le-ltb, eq-eqb, ne-eqb}
+use borrow.Author.Tests.{eqb-true, eqb-false, ltb-true, lt-ltb, eq-eqb, ne-eqb}
 use lib.Dec.{eqb, ltb}
 use lib.ListN.{length, getD, set, replicate, length-set, getD-replicate}
 use lib.Seq.{getD-set-same, getD-set-other}
-use Rattle.graph.specs.Counting.{countOf, hit, Below}
+use Rattle.graph.specs.Counting.{countOf}
 use Rattle.graph.specs.Links.{linked, toIf}
-use Rattle.graph.specs.Shop.{greatest}
 use Rattle.graph.proofs.CountingLaws.{either, hit-ne, hit-pos}
 use Rattle.plan.specs.Problem.{Problem, Genes}
 use Rattle.plan.specs.Accepted.{Accepted}

@@ -1,13 +1,13 @@
--- A task's steps passed, a task scanned, and all tasks: what is left to scan, upon what was scanned, gives what the whole does.
+-- The two loops of a scan, and a task scanned: what is left to scan, upon what was scanned, gives what the whole does.
 use Prim.Native.Nat.{ℕ, zero, suc, _+_, _-_, _≤_, _<_}
 use mathlib.Core.Path.{_≡_, refl, sym, ap, ap₂, _∙_, subst}
 use mathlib.Core.Bool.{Bool, true, false}
 use mathlib.Core.List.{List, [], _∷_, _++_, append-nil}
 use native.Mathlib.Omega.{arith}
 use native.Mathlib.Numerals.{add-one}
-use borrow.Author.Tests.{eq-eqb}
+use borrow.Author.Tests.{eq-eqb, ne-eqb}
 use lib.ListN.{length, getD, set, take, length-set}
-use lib.Seq.{getD-set-same, getD-set-other, set-getD, take-suc-set, length-take-le, getD-take}
+use lib.Seq.{getD-set-same, getD-set-other, set-getD, take-suc-set}
 use Rattle.graph.specs.Counting.{Below}
 use Rattle.graph.proofs.CountingLaws.{either, below-more, below-append}
 use Rattle.plan.specs.Problem.{Problem, Genes}
@@ -15,7 +15,7 @@ use Rattle.plan.specs.Accepted.{Accepted}
 use Rattle.genes.proofs.TaskLaws.{task-within}
 use Rattle.board.specs.declared.Seat.{Seat}
 use Rattle.active.specs.Active.{Scan, anyUnsettled, stopsAt, stopAt, passOver, scanSteps, scanFrom, scanTasks, scanOf, seatNow}
-use Rattle.active.specs.Kept.{stopsHere, Manned, nextIn, lastIn, heldIn, seatIn, withSeat, heldBy, Holds, Fronts, Kept, Passed, foundIf, ScannedTask, ScannedAll}
+use Rattle.active.specs.Kept.{stopsHere, Manned, nextIn, lastIn, heldIn, seatIn, withSeat, keepSeat, heldBy, Holds, Kept, ScannedAll}
 use Rattle.active.proofs.KeptLaws.{Grown, one-grown, told-grown, stops-is, own-task, seat-other, holds-by, holds-grown, length-with, with-low, with-apart, with-seat}
 
 -- ---- a task's steps
@@ -54,8 +54,9 @@ skip p g (suc k) left x settled found h =
     ∙ skip p g k left (suc x) settled found (λ i l u. h i (omega arith) (omega arith))
     ∙ ap (λ (y : ℕ). scanFrom p g left y (scanWith settled found)) e
 
--- ---- `next_step`
+-- ---- the loop over a task's steps
 
+-- Steps from one on are passed, each settled already or for want of a machine: what is left to scan is scanned from there.
 pub record Passing (on settled₀ settled : List ℕ) (from last a : ℕ) : Type 0 where
   pub above : from ≤ a
   pub below : a ≤ last
@@ -90,15 +91,31 @@ module _ {on settled₀ settled : List ℕ} {from last a : ℕ} (w : Passing on 
             ∙ w .rest p g n m l found;
       }
 
-  pub pass-end : (a < last → stopsHere on settled a ≡ true) → Passed on settled₀ settled from last a
-  pass-end h =
-      record { above = w .above; below = w .below; sized = w .sized; stops = h; ones = w .ones; grown = w .grown; rest = w .rest }
+-- Nothing else changes while steps are passed.
+pub record Stepping (on settled₀ kept₀ offered₀ : List ℕ) (found₀ : ℕ) (settled kept offered : List ℕ) (found from last a : ℕ) : Type 0 where
+  pub passing : Passing on settled₀ settled from last a
+  pub keeps : kept ≡ kept₀
+  pub offers : offered ≡ offered₀
+  pub finds : found ≡ found₀
 
--- ---- `scan_task`
+-- ---- a task
+
+abbrev foundIf : Bool → ℕ → List ℕ
+foundIf true a = a ∷ []
+foundIf false a = []
+
+-- One task is scanned; its seat is kept if it has a candidate, and the others keep theirs.
+record ScannedTask (p : Problem) (g : Genes) (t : ℕ) (settled₀ kept₀ settled kept ends lines steps : List ℕ) (r : Bool) : Type 0 where
+  flags : length settled ≡ length settled₀
+  keeping : Kept p g kept ends lines steps settled
+  others : (u : ℕ) → u < 32 → (u ≡ t → ⊥) → heldIn kept u ≡ heldIn kept₀ u
+  known : r ≡ true → heldIn kept t < p .n
+  scanned : (found : List ℕ)
+      → scanFrom p g (p .steps t) (p .first t) (scanWith settled₀ found) ≡ scanWith settled (found ++ foundIf r (heldIn kept t))
 
 module _ {p : Problem} {g : Genes} (ok : Accepted p g) {on ends lines steps : List ℕ} (manned : Manned g (p .n) on) (t : ℕ) (ht : t < p .tasks)
     {settled₀ kept₀ : List ℕ} (k : Kept p g kept₀ ends lines steps settled₀)
-    {settled : List ℕ} {a : ℕ} (w : Passed on settled₀ settled (nextIn kept₀ t) (lastIn kept₀ t) a) where
+    {settled : List ℕ} {a : ℕ} (w : Passing on settled₀ settled (nextIn kept₀ t) (lastIn kept₀ t) a) where
   abbrev kept₁ : List ℕ
   kept₁ = set kept₀ t a
 
@@ -121,7 +138,7 @@ module _ {p : Problem} {g : Genes} (ok : Accepted p g) {on ends lines steps : Li
       ∙ ap (λ (x : ℕ). scanFrom p g (lastIn kept₀ t - nextIn kept₀ t) x (scanWith settled₀ found)) f
       ∙ sym (w .rest p g (p .n) manned (omega (arith, d, task-within ok t ht)) found)
 
-  pub kept-next : Kept p g kept₁ ends lines steps settled
+  kept-next : Kept p g kept₁ ends lines steps settled
   kept-next =
       let same : getD kept₁ t 0 ≡ a = getD-set-same kept₀ t a 0 (omega (arith, low, k .sized)) in
       record {
@@ -154,7 +171,11 @@ module _ {p : Problem} {g : Genes} (ok : Accepted p g) {on ends lines steps : Li
   held-next : (u : ℕ) → heldIn kept₁ u ≡ heldIn kept₀ u
   held-next u = getD-set-other kept₀ t (64 + u) a 0 (λ e. omega (arith, e, low))
 
-  pub task-over : lastIn kept₀ t ≤ a → ScannedTask p g t settled₀ kept₀ settled kept₁ ends lines steps false
+  -- whose seat is kept waits for none
+  held-free : heldIn kept₁ t ≡ a → a < p .n → anyUnsettled settled (p .predecessors a) ≡ false
+  held-free q h = subst (λ (x : ℕ). anyUnsettled settled (p .predecessors x) ≡ false) q (kept-next .holds t ht (omega (arith, q, h)) .free)
+
+  task-over : lastIn kept₀ t ≤ a → ScannedTask p g t settled₀ kept₀ settled kept₁ ends lines steps false
   task-over h =
       record {
         flags = w .sized;
@@ -164,8 +185,8 @@ module _ {p : Problem} {g : Genes} (ok : Accepted p g) {on ends lines steps : Li
         scanned = λ found. left-over found ∙ over p g (lastIn kept₀ t - a) a (scanWith settled found) (omega arith) ∙ ap (scanWith settled) (sym (append-nil found));
       }
 
-  module _ (h : a < lastIn kept₀ t) where
-    pub here : a < p .n
+  module _ (h : a < lastIn kept₀ t) (stops : stopsHere on settled a ≡ true) where
+    here : a < p .n
     here = omega (arith, h, k .fronts .last t ht, task-within ok t ht)
 
     mine : p .taskOf a ≡ t
@@ -176,9 +197,9 @@ module _ {p : Problem} {g : Genes} (ok : Accepted p g) {on ends lines steps : Li
         let e : lastIn kept₀ t - a ≡ suc (lastIn kept₀ t - (a + 1)) = omega arith in
         left-over found
         ∙ ap (λ (x : ℕ). scanFrom p g x a (scanWith settled found)) e
-        ∙ stopped-at p g (lastIn kept₀ t - (a + 1)) a (stopsAt g settled a) (scanWith settled found) (sym (stops-is manned settled a here) ∙ w .stops h)
+        ∙ stopped-at p g (lastIn kept₀ t - (a + 1)) a (stopsAt g settled a) (scanWith settled found) (sym (stops-is manned settled a here) ∙ stops)
 
-    pub task-waits : anyUnsettled settled (p .predecessors a) ≡ true → ScannedTask p g t settled₀ kept₀ settled kept₁ ends lines steps false
+    task-waits : anyUnsettled settled (p .predecessors a) ≡ true → ScannedTask p g t settled₀ kept₀ settled kept₁ ends lines steps false
     task-waits e =
         record {
           flags = w .sized;
@@ -193,7 +214,7 @@ module _ {p : Problem} {g : Genes} (ok : Accepted p g) {on ends lines steps : Li
       found-here {x} q found = (rw e at (stopped found)) ∙ ap (λ (y : ℕ). scanWith settled (found ++ (y ∷ []))) (sym q)
 
       -- the seat is there already
-      pub task-held : heldIn kept₁ t ≡ a → ScannedTask p g t settled₀ kept₀ settled kept₁ ends lines steps true
+      task-held : heldIn kept₁ t ≡ a → ScannedTask p g t settled₀ kept₀ settled kept₁ ends lines steps true
       task-held q =
           record {
             flags = w .sized;
@@ -239,7 +260,7 @@ module _ {p : Problem} {g : Genes} (ok : Accepted p g) {on ends lines steps : Li
                   seat = written ∙ ex ∙ ap (seatNow p g ends lines steps) (sym held-now);
                 }
 
-        pub task-kept : ScannedTask p g t settled₀ kept₀ settled kept₂ ends lines steps true
+        task-kept : ScannedTask p g t settled₀ kept₀ settled kept₂ ends lines steps true
         task-kept =
             record {
               flags = w .sized;
@@ -249,7 +270,12 @@ module _ {p : Problem} {g : Genes} (ok : Accepted p g) {on ends lines steps : Li
               scanned = found-here held-now;
             }
 
--- ---- the tasks
+      task-found : ScannedTask p g t settled₀ kept₀ settled (keepSeat p g ends lines steps kept₁ t a) ends lines steps true
+      task-found =
+          either (heldIn kept₁ t) a (λ q. rw (eq-eqb (heldIn kept₁ t) a q) (task-held q))
+          (λ ne. rw (ne-eqb (heldIn kept₁ t) a ne) (task-kept refl))
+
+-- ---- the loop over the tasks
 
 held-same : (kept kept′ l : List ℕ) (t : ℕ) → Below t l → ((u : ℕ) → u < t → heldIn kept′ u ≡ heldIn kept u) → heldBy kept′ l ≡ heldBy kept l
 unfolding heldBy Below
@@ -302,7 +328,7 @@ module _ {p : Problem} {g : Genes} (ok : Accepted p g) {settled₀ offered₀ se
         let o : scanTasks p g (p .tasks - (t + 1)) (suc t) (scanFrom p g (p .steps t) (p .first t) (scanWith settled (heldBy kept (take found offered)))) ≡ scanOf p g settled₀ = rw q at (w .rest) in
         ap₂ (λ (x : ℕ) (y : Scan). scanTasks p g (p .tasks - (t + 1)) x y) (add-one t) (ap (scanWith settled′) e ∙ sym (s .scanned (heldBy kept (take found offered)))) ∙ o
 
-    pub scan-skip : r ≡ false → Scanning p g settled₀ offered₀ settled′ kept′ ends lines steps offered found (t + 1)
+    scan-skip : r ≡ false → Scanning p g settled₀ offered₀ settled′ kept′ ends lines steps offered found (t + 1)
     scan-skip e =
         record {
           within = omega arith;
@@ -325,7 +351,7 @@ module _ {p : Problem} {g : Genes} (ok : Accepted p g) {settled₀ offered₀ se
       unfolding heldBy
       held = ap (heldBy kept′) list ∙ held-append kept′ (take found offered) (t ∷ []) ∙ ap (λ (y : List ℕ). y ++ (heldIn kept′ t ∷ [])) same
 
-      pub scan-take : Scanning p g settled₀ offered₀ settled′ kept′ ends lines steps (set offered found t) (found + 1) (t + 1)
+      scan-take : Scanning p g settled₀ offered₀ settled′ kept′ ends lines steps (set offered found t) (found + 1) (t + 1)
       scan-take =
           record {
             within = omega arith;
@@ -352,3 +378,26 @@ module _ {p : Problem} {g : Genes} (ok : Accepted p g) {settled₀ offered₀ se
         tasks = below-more t (p .tasks) (take found offered) (w .within) (w .tasks);
         known = all-known (p .n) kept (take found offered) (w .known);
       }
+
+-- A task is left: at its end, at a step that waits, or at a candidate.
+module _ {p : Problem} {g : Genes} (ok : Accepted p g) {settled₀ offered₀ settled₁ kept₁ ends lines steps offered₁ : List ℕ} {found₁ t : ℕ}
+    (o : Scanning p g settled₀ offered₀ settled₁ kept₁ ends lines steps offered₁ found₁ t) (ht : t < p .tasks) {on : List ℕ} (manned : Manned g (p .n) on)
+    {settled kept offered : List ℕ} {found a : ℕ} (w : Stepping on settled₁ kept₁ offered₁ found₁ settled kept offered found (nextIn kept₁ t) (lastIn kept₁ t) a) where
+  skipped : ScannedTask p g t settled₁ kept₁ settled (set kept₁ t a) ends lines steps false → Scanning p g settled₀ offered₀ settled (set kept t a) ends lines steps offered found (t + 1)
+  skipped s = rw (w .keeps, w .offers, w .finds) (scan-skip ok o ht s refl)
+
+  pub left-at-end : lastIn kept₁ t ≤ a → Scanning p g settled₀ offered₀ settled (set kept t a) ends lines steps offered found (t + 1)
+  left-at-end l = skipped (task-over ok manned t ht (o .keeping) (w .passing) l)
+
+  pub free-if-held : a < p .n → heldIn (set kept t a) t ≡ a → anyUnsettled settled (p .predecessors a) ≡ false
+  free-if-held h q = held-free ok manned t ht (o .keeping) (w .passing) (ap (λ (k : List ℕ). heldIn (set k t a) t) (sym (w .keeps)) ∙ q) h
+
+  module _ (l : a < lastIn kept₁ t) (stops : stopsHere on settled a ≡ true) where
+    pub left-waiting : anyUnsettled settled (p .predecessors a) ≡ true → Scanning p g settled₀ offered₀ settled (set kept t a) ends lines steps offered found (t + 1)
+    left-waiting e = skipped (task-waits ok manned t ht (o .keeping) (w .passing) l stops e)
+
+    pub left-found : anyUnsettled settled (p .predecessors a) ≡ false → found < length offered → {kept′ : List ℕ} → kept′ ≡ keepSeat p g ends lines steps (set kept t a) t a
+        → Scanning p g settled₀ offered₀ settled kept′ ends lines steps (set offered found t) (found + 1) (t + 1)
+    left-found e room q =
+        rw (q, w .keeps, w .offers, w .finds)
+        (scan-take ok o ht (task-found ok manned t ht (o .keeping) (w .passing) l stops e) refl (omega (arith, room, w .finds, ap length (w .offers))))

@@ -1,9 +1,7 @@
 -- What a candidate's seat asks is there, and what is worked out is its seat.
 use Prim.Native.Nat.{ℕ, _<_, _^_}
 use mathlib.Core.Path.{_≡_, refl}
-use mathlib.Core.Bool.{true, false}
 use mathlib.Core.List.{List}
-use mathlib.Core.Option.{Option, none, some}
 use native.Mathlib.Omega.{arith}
 use lib.ListN.{getD}
 use Rattle.graph.specs.Counting.{Below}
@@ -13,7 +11,7 @@ use Rattle.graph.specs.declared.Link.the-variants.{To, Nothing}
 use Rattle.plan.specs.Problem.{Problem, Genes}
 use Rattle.plan.specs.Accepted.{Accepted}
 use Rattle.timing.specs.Placing.{machineBefore}
-use Rattle.genes.specs.Indexed.{assignedTo, isAssigned}
+use Rattle.genes.specs.Indexed.{assignedTo}
 use Rattle.genes.proofs.MachineLaws.{assigned-known}
 use Rattle.board.specs.Board.{Board, lastPlaced, seatAfter, seat}
 use Rattle.board.specs.Sound.{Sound}
@@ -24,12 +22,6 @@ use Rattle.active.specs.Active.{seatNow}
 pub one-below : (n a : ℕ) → a < n → Below n (linked (To a))
 unfolding Below
 one-below n a h = (h, tt)
-
-pub some-assigned : {o : Option ℕ} {m : ℕ} → o ≡ some m → isAssigned o ≡ true
-some-assigned e = rw e
-
-pub none-assigned : {o : Option ℕ} → o ≡ none → isAssigned o ≡ false
-none-assigned e = rw e
 
 module _ {p : Problem} {g : Genes} (ok : Accepted p g) where
   before-known : (step : Link) → machineBefore step (assignedTo g) < p .machines

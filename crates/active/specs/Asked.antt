@@ -4,7 +4,6 @@ use mathlib.Core.Path.{_≡_}
 use mathlib.Core.List.{List}
 use lib.ListN.{length, getD}
 use Rattle.plan.specs.Problem.{Problem, Genes}
-use Rattle.in_order.specs.Waiting.{Naming}
 use Rattle.board.specs.Board.{Board, emptyBoard}
 use Rattle.board.specs.Sound.{Sized}
 use Rattle.active.specs.Kept.{Manned, Kept, Fresh}
@@ -39,10 +38,3 @@ pub record Started (p : Problem) (g : Genes) (ranks on order kept : List ℕ) (b
   pub roomy : p .n ≤ length order
   pub fresh : Fresh p kept
   pub sized : Sized (p .n) b
-
--- The table holds some problem that has the activity, with a flag for each.
-pub record Flagged (table settled : List ℕ) (a : ℕ) : Type 0 where
-  pub problem : Problem
-  pub naming : Naming problem table
-  pub roomy : problem .n ≤ length settled
-  pub here : a < problem .n

@@ -1,16 +1,16 @@
 -- What is kept from one placing to the next, in rows of 32 cells, one for each task: how far it is passed, where it ends, and the seat of
 -- its next activity. What is written here decides nothing: it is what the rules would work out again.
-use Prim.Native.Nat.{ℕ, zero, suc, _+_, _-_, _≤_, _<_}
+use Prim.Native.Nat.{ℕ, zero, suc, _+_, _≤_, _<_}
 use mathlib.Core.Path.{_≡_}
-use mathlib.Core.Bool.{Bool, true, false, cond, not, _&&_}
-use mathlib.Core.List.{List, [], _∷_, _++_}
+use mathlib.Core.Bool.{Bool, false, cond, not, _&&_}
+use mathlib.Core.List.{List, [], _∷_}
 use mathlib.Core.Option.{Option, none, some}
 use lib.Dec.{eqb, ltb}
 use lib.ListN.{length, getD, set}
 use Rattle.plan.specs.Problem.{Problem, Genes}
 use Rattle.board.specs.declared.Seat.{Seat}
 use Rattle.graph.specs.Counting.{Below}
-use Rattle.active.specs.Active.{settledIn, anyUnsettled, scanFrom, scanOf, seatNow}
+use Rattle.active.specs.Active.{settledIn, anyUnsettled, scanOf, seatNow}
 
 -- ---- machines by activity
 
@@ -30,35 +30,58 @@ stopsHere on settled a = not (settledIn settled a) && ltb (getD on a 0) 16
 
 -- ---- the rows
 
+-- where each begins, after the first
+abbrev pub lastRow : ℕ
+lastRow = 32
+
+abbrev pub activityRow : ℕ
+activityRow = 64
+
+abbrev pub machineRow : ℕ
+machineRow = 96
+
+abbrev pub startRow : ℕ
+startRow = 128
+
+abbrev pub finishRow : ℕ
+finishRow = 160
+
+abbrev pub setupRow : ℕ
+setupRow = 192
+
 abbrev pub nextIn : (kept : List ℕ) → ℕ → ℕ
 nextIn kept t = getD kept t 0
 
 abbrev pub lastIn : (kept : List ℕ) → ℕ → ℕ
-lastIn kept t = getD kept (32 + t) 0
+lastIn kept t = getD kept (lastRow + t) 0
 
 -- the activity whose seat is kept; a number that is no activity stands for none
 abbrev pub heldIn : (kept : List ℕ) → ℕ → ℕ
-heldIn kept t = getD kept (64 + t) 0
+heldIn kept t = getD kept (activityRow + t) 0
 
 abbrev pub seatIn : (kept : List ℕ) → ℕ → Seat
 seatIn kept t =
     record {
-      activity = getD kept (64 + t) 0;
-      machine = getD kept (96 + t) 0;
-      start = getD kept (128 + t) 0;
-      finish = getD kept (160 + t) 0;
-      setup = getD kept (192 + t) 0;
+      activity = getD kept (activityRow + t) 0;
+      machine = getD kept (machineRow + t) 0;
+      start = getD kept (startRow + t) 0;
+      finish = getD kept (finishRow + t) 0;
+      setup = getD kept (setupRow + t) 0;
     }
 
 -- a task's seat written
 abbrev pub withSeat : (kept : List ℕ) → ℕ → Seat → List ℕ
 withSeat kept t x =
-    set (set (set (set (set kept (64 + t) (x .activity)) (96 + t) (x .machine)) (128 + t) (x .start)) (160 + t) (x .finish)) (192 + t) (x .setup)
+    set (set (set (set (set kept (activityRow + t) (x .activity)) (machineRow + t) (x .machine)) (startRow + t) (x .start)) (finishRow + t) (x .finish)) (setupRow + t) (x .setup)
+
+-- .. where it is not kept already
+abbrev pub keepSeat : Problem → Genes → (ends lines steps kept : List ℕ) → (t a : ℕ) → List ℕ
+keepSeat p g ends lines steps kept t a = cond (eqb (heldIn kept t) a) kept (withSeat kept t (seatNow p g ends lines steps a))
 
 -- the seats on a machine forgotten, of the first k tasks
 unfoldable pub forgotten : (none machine : ℕ) → ℕ → (kept : List ℕ) → List ℕ
 forgotten n m zero kept = kept
-forgotten n m (suc k) kept = cond (eqb (getD kept (96 + k) 0) m) (set (forgotten n m k kept) (64 + k) n) (forgotten n m k kept)
+forgotten n m (suc k) kept = cond (eqb (getD kept (machineRow + k) 0) m) (set (forgotten n m k kept) (activityRow + k) n) (forgotten n m k kept)
 
 -- the activities whose seats some tasks keep
 unfoldable pub heldBy : (kept tasks : List ℕ) → List ℕ
@@ -98,32 +121,7 @@ pub record Fresh (p : Problem) (kept : List ℕ) : Type 0 where
   pub last : (t : ℕ) → t < p .tasks → lastIn kept t ≡ p .first t + p .steps t
   pub none : (t : ℕ) → t < p .tasks → heldIn kept t ≡ p .n
 
--- ---- a task's scan
-
--- Steps from one on are passed, each settled already or for want of a machine, until one stops or the task ends: what is left to scan is
--- scanned from there.
-pub record Passed (on settled₀ settled : List ℕ) (from last a : ℕ) : Type 0 where
-  pub above : from ≤ a
-  pub below : a ≤ last
-  pub sized : length settled ≡ length settled₀
-  pub stops : a < last → stopsHere on settled a ≡ true
-  pub ones : (i : ℕ) → from ≤ i → i < a → getD settled i 0 ≡ 1
-  pub grown : (i : ℕ) → getD settled₀ i 0 ≡ 1 → getD settled i 0 ≡ 1
-  pub rest : (p : Problem) (g : Genes) (n : ℕ) → Manned g n on → last ≤ n → (found : List ℕ)
-      → scanFrom p g (last - a) a (record { settled = settled; candidates = found }) ≡ scanFrom p g (last - from) from (record { settled = settled₀; candidates = found })
-
-abbrev pub foundIf : Bool → ℕ → List ℕ
-foundIf true a = a ∷ []
-foundIf false a = []
-
--- One task is scanned; its seat is kept if it has a candidate, and the others keep theirs.
-pub record ScannedTask (p : Problem) (g : Genes) (t : ℕ) (settled₀ kept₀ settled kept ends lines steps : List ℕ) (r : Bool) : Type 0 where
-  pub flags : length settled ≡ length settled₀
-  pub keeping : Kept p g kept ends lines steps settled
-  pub others : (u : ℕ) → u < 32 → (u ≡ t → ⊥) → heldIn kept u ≡ heldIn kept₀ u
-  pub known : r ≡ true → heldIn kept t < p .n
-  pub scanned : (found : List ℕ)
-      → scanFrom p g (p .steps t) (p .first t) (record { settled = settled₀; candidates = found }) ≡ record { settled = settled; candidates = found ++ foundIf r (heldIn kept t) }
+-- ---- the scan
 
 -- All tasks are scanned: the candidates are those whose seats the tasks offered keep.
 pub record ScannedAll (p : Problem) (g : Genes) (settled₀ settled kept ends lines steps offered : List ℕ) : Type 0 where

@@ -1,21 +1,21 @@
 // One scan of the tasks: each stops at its first step that is not settled and has a machine.
-use crate::seats::keep;
-use crate::seats::seat_of;
+use crate::seats::ACTIVITY_ROW;
+use crate::seats::LAST_ROW;
+use crate::seats::keep_seat;
 use plan::Layout;
 ghost use mathlib.Core.Path.{_≡_};
+ghost use mathlib.Core.Bool.{false};
 ghost use Prim.Native.Nat.{_+_, _≤_, _<_};
 ghost use lib.ListN.{length, take};
 ghost use Rattle.words.specs.Words.{words};
 ghost use Rattle.graph.specs.Counting.{Below};
-ghost use Rattle.plan.specs.Problem.{Problem};
 ghost use Rattle.plan.specs.Input.{problemOf, genesOf};
 ghost use Rattle.plan.specs.Found.{Placed};
 ghost use Rattle.plan.specs.Accepted.{Accepted};
 ghost use Rattle.tables.specs.Tabled.{Tabled};
-ghost use Rattle.in_order.specs.Waiting.{Naming};
 ghost use Rattle.active.specs.Active.{rankedFrom, anyUnsettled};
-ghost use Rattle.active.specs.Kept.{stopsHere, Manned, Kept, Passed, ScannedTask, ScannedAll};
-ghost use Rattle.active.specs.Asked.{Timely, Flagged};
+ghost use Rattle.active.specs.Kept.{stopsHere, Manned, heldIn, Kept, ScannedAll};
+ghost use Rattle.active.specs.Asked.{Timely};
 
 // Gives each of the order its place as its rank.
 pub fn put_ranks(activities: &[usize], ranks: &mut [usize])
@@ -46,11 +46,24 @@ fn any_unsettled(list: &[usize], settled: &[usize]) -> bool
     false
 }
 
-// Whether an activity waits for a predecessor.
-fn waits(table: &[usize], settled: &[usize], a: usize) -> bool
-    requires { ⌜ Flagged (now table) (now settled) a ⌝ }
-    ensures { λ r. ⌜ ((p : Problem) → Naming p (now (table .entry)) → a < p .n → r ≡ anyUnsettled (now (settled .entry)) (p .predecessors a)) ⌝ }
+// Whether a task's next activity waits for a predecessor; one whose seat is kept does not.
+fn waits(
+    s: &[u8],
+    z: Layout,
+    table: &[usize],
+    t: usize,
+    a: usize,
+    settled: &[usize],
+    kept: &[usize],
+) -> bool
+    requires { ⌜ Accepted (problemOf (words (now s)) z) (genesOf (words (now s)) z) × Tabled (problemOf (words (now s)) z) (now table) × (a < z .activities) × (t < 32) ⌝ }
+    requires { ⌜ (length (now settled) ≡ z .activities) × (length (now kept) ≡ 224) ⌝ }
+    requires { ⌜ (heldIn (now kept) t ≡ a → anyUnsettled (now settled) (problemOf (words (now s)) z .predecessors a) ≡ false) ⌝ }
+    ensures { λ r. ⌜ r ≡ anyUnsettled (now (settled .entry)) (problemOf (words (now (s .entry))) z .predecessors a) ⌝ }
 {
+    if kept[ACTIVITY_ROW + t] == a {
+        return false;
+    }
     any_unsettled(tables::named_by(table, a), settled)
 }
 
@@ -65,59 +78,7 @@ fn stops(on: &[usize], settled: &[usize], a: usize) -> bool
     on[a] < 16
 }
 
-// Passes the steps from one on until the task stops, and answers where; steps before are settled.
-fn next_step(on: &[usize], from: usize, last: usize, settled: &mut [usize]) -> usize
-    requires { ⌜ (from ≤ last) × (last ≤ length (now on)) × (last ≤ length (now settled)) ⌝ }
-    ensures { λ r. ⌜ Passed (now (on .entry)) (now (settled .entry)) (now (settled .exit)) from last r ⌝ }
-{
-    let mut a = from;
-    while a < last {
-        if stops(on, settled, a) {
-            return a;
-        }
-        settled[a] = 1;
-        a += 1;
-    }
-    a
-}
-
-// Scans one task, and answers whether it has a candidate, whose seat is then kept.
-fn scan_task(
-    s: &[u8],
-    z: Layout,
-    table: &[usize],
-    on: &[usize],
-    ends: &[u64],
-    lines: &[usize],
-    steps: &[usize],
-    t: usize,
-    settled: &mut [usize],
-    kept: &mut [usize],
-) -> bool
-    requires { ⌜ Placed z × Accepted (problemOf (words (now s)) z) (genesOf (words (now s)) z) × Tabled (problemOf (words (now s)) z) (now table) ⌝ }
-    requires { ⌜ Manned (genesOf (words (now s)) z) (z .activities) (now on) × Timely (z .activities) (now ends) (now lines) (now steps) × (t < z .tasks) ⌝ }
-    requires { ⌜ (length (now settled) ≡ z .activities) × Kept (problemOf (words (now s)) z) (genesOf (words (now s)) z) (now kept) (now ends) (now lines) (now steps) (now settled) ⌝ }
-    ensures { λ r. ⌜ ScannedTask (problemOf (words (now (s .entry))) z) (genesOf (words (now (s .entry))) z) t (now (settled .entry)) (now (kept .entry)) (now (settled .exit)) (now (kept .exit)) (now (ends .entry)) (now (lines .entry)) (now (steps .entry)) r ⌝ }
-{
-    let from = kept[t];
-    let last = kept[32 + t];
-    let a = next_step(on, from, last, settled);
-    kept[t] = a;
-    if last <= a {
-        return false;
-    }
-    if waits(table, settled, a) {
-        return false;
-    }
-    if kept[64 + t] == a {
-        return true;
-    }
-    let seat = seat_of(s, z, table, a, ends, lines, steps);
-    keep(t, seat, kept);
-    true
-}
-
-// Scans the tasks: writes those that have a candidate, and answers how many they are.
+// Scans the tasks, each from its next step until it stops: writes those that have a candidate, and answers how many they are.
 pub fn scan(
     s: &[u8],
     z: Layout,
@@ -137,14 +98,27 @@ pub fn scan(
 {
     let mut found = 0;
     let mut t = 0;
-    while t < z.tasks {
+    'tasks: while t < z.tasks {
         let task = t;
         t += 1;
-        if !scan_task(s, z, table, on, ends, lines, steps, task, settled, kept) {
-            continue;
+        let last = kept[LAST_ROW + task];
+        let mut a = kept[task];
+        while a < last {
+            if !stops(on, settled, a) {
+                settled[a] = 1;
+                a += 1;
+                continue;
+            }
+            kept[task] = a;
+            if waits(s, z, table, task, a, settled, kept) {
+                continue 'tasks;
+            }
+            keep_seat(s, z, table, ends, lines, steps, task, a, kept);
+            offered[found] = task;
+            found += 1;
+            continue 'tasks;
         }
-        offered[found] = task;
-        found += 1;
+        kept[task] = a;
     }
     found
 }

@@ -12,8 +12,21 @@ ghost use Rattle.plan.specs.Found.{Placed};
 ghost use Rattle.plan.specs.Accepted.{Accepted};
 ghost use Rattle.tables.specs.Tabled.{Tabled};
 ghost use Rattle.active.specs.Active.{seatNow};
-ghost use Rattle.active.specs.Kept.{machineCode, seatIn, withSeat, forgotten, Manned, Fresh};
+ghost use Rattle.active.specs.Kept.{machineCode, activityRow, seatIn, withSeat, keepSeat, forgotten, Manned, Fresh};
 ghost use Rattle.active.specs.Asked.{Timely};
+
+// Where each row of what is kept begins, after the first, which says how far a task is passed.
+pub const LAST_ROW: usize = 32;
+
+pub const ACTIVITY_ROW: usize = 64;
+
+const MACHINE_ROW: usize = 96;
+
+const START_ROW: usize = 128;
+
+const FINISH_ROW: usize = 160;
+
+const SETUP_ROW: usize = 192;
 
 // The machine of an activity; 16 where it has none.
 fn machine_code(s: &[u8], z: Layout, a: usize) -> usize
@@ -48,15 +61,15 @@ pub fn begin(s: &[u8], z: Layout, kept: &mut [usize])
     while t < z.tasks {
         let next = first + plan::steps(s, z, t) as usize;
         kept[t] = first;
-        kept[32 + t] = next;
-        kept[64 + t] = z.activities;
+        kept[LAST_ROW + t] = next;
+        kept[ACTIVITY_ROW + t] = z.activities;
         first = next;
         t += 1;
     }
 }
 
 // A candidate's seat.
-pub fn seat_of(
+fn seat_of(
     s: &[u8],
     z: Layout,
     table: &[usize],
@@ -84,39 +97,62 @@ pub fn seat_at(kept: &[usize], t: usize) -> Seat
     ensures { λ r. ⌜ r ≡ seatIn (now (kept .entry)) t ⌝ }
 {
     Seat {
-        activity: kept[64 + t],
-        machine: kept[96 + t],
-        start: kept[128 + t] as u64,
-        finish: kept[160 + t] as u64,
-        setup: kept[192 + t] as u64,
+        activity: kept[ACTIVITY_ROW + t],
+        machine: kept[MACHINE_ROW + t],
+        start: kept[START_ROW + t] as u64,
+        finish: kept[FINISH_ROW + t] as u64,
+        setup: kept[SETUP_ROW + t] as u64,
     }
 }
 
 // Keeps the seat of a task.
-pub fn keep(t: usize, seat: Seat, kept: &mut [usize])
+fn keep(t: usize, seat: Seat, kept: &mut [usize])
     requires { ⌜ (length (now kept) ≡ 224) × (t < 32) ⌝ }
     ensures { λ _. ⌜ now (kept .exit) ≡ withSeat (now (kept .entry)) t seat ⌝ }
 {
-    kept[64 + t] = seat.activity;
-    kept[96 + t] = seat.machine;
-    kept[128 + t] = seat.start as usize;
-    kept[160 + t] = seat.finish as usize;
-    kept[192 + t] = seat.setup as usize;
+    kept[ACTIVITY_ROW + t] = seat.activity;
+    kept[MACHINE_ROW + t] = seat.machine;
+    kept[START_ROW + t] = seat.start as usize;
+    kept[FINISH_ROW + t] = seat.finish as usize;
+    kept[SETUP_ROW + t] = seat.setup as usize;
+}
+
+// Keeps the seat of a task's candidate, where it is not kept already.
+pub fn keep_seat(
+    s: &[u8],
+    z: Layout,
+    table: &[usize],
+    ends: &[u64],
+    lines: &[usize],
+    steps: &[usize],
+    t: usize,
+    a: usize,
+    kept: &mut [usize],
+)
+    requires { ⌜ Placed z × Accepted (problemOf (words (now s)) z) (genesOf (words (now s)) z) × Tabled (problemOf (words (now s)) z) (now table) ⌝ }
+    requires { ⌜ (a < z .activities) × Timely (z .activities) (now ends) (now lines) (now steps) × (length (now kept) ≡ 224) × (t < 32) ⌝ }
+    ensures { λ _. ⌜ now (kept .exit) ≡ keepSeat (problemOf (words (now (s .entry))) z) (genesOf (words (now (s .entry))) z) (now (ends .entry)) (now (lines .entry)) (now (steps .entry)) (now (kept .entry)) t a ⌝ }
+{
+    if kept[ACTIVITY_ROW + t] == a {
+        return;
+    }
+    let seat = seat_of(s, z, table, a, ends, lines, steps);
+    keep(t, seat, kept);
 }
 
 // Forgets the seats on a machine, and that of a task; n stands for none.
 pub fn forget(n: usize, tasks: usize, m: usize, task: usize, kept: &mut [usize])
     requires { ⌜ (length (now kept) ≡ 224) × (tasks ≤ 32) × (task < 32) ⌝ }
-    ensures { λ _. ⌜ now (kept .exit) ≡ set (forgotten n m tasks (now (kept .entry))) (64 + task) n ⌝ }
+    ensures { λ _. ⌜ now (kept .exit) ≡ set (forgotten n m tasks (now (kept .entry))) (activityRow + task) n ⌝ }
 {
     let mut t = 0;
     while t < tasks {
         let k = t;
         t += 1;
-        if kept[96 + k] != m {
+        if kept[MACHINE_ROW + k] != m {
             continue;
         }
-        kept[64 + k] = n;
+        kept[ACTIVITY_ROW + k] = n;
     }
-    kept[64 + task] = n;
+    kept[ACTIVITY_ROW + task] = n;
 }
