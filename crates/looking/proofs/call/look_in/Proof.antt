@@ -48,19 +48,19 @@ returns c =
 
 see-requires : tie.Need-see-requires
 see-requires c κs =
-    ((record { placed = @pre .0 .0 .placed; accepted = @pre .0 .0 .accepted; weighed = @pre .0 .0 .weighed; tabled = @pre .0 .0 .tabled; transports = @transports .ensures }, record { roomy = @pre .0 .1; sixteen = @good .1 .1 .1 .1 .0 .1 .0 .1; well = @pre .0 .2 }, @time-sequences .ensures .1 .1 (granted _ (@if1 .left))), (record { length-before = @time-sequences .kept .1 .1 .1 .1 .1 .1 .0 ∙ @pre .1 .0 .0 .length-before; length-after = @time-sequences .kept .1 .1 .1 .1 .1 .1 .1 .0 ∙ @pre .1 .0 .0 .length-after; length-machines = @time-sequences .kept .1 .1 .1 .1 .1 .1 .1 .1 .0 ∙ @pre .1 .0 .0 .length-machines; length-places = @time-sequences .kept .1 .1 .1 .1 .1 .1 .1 .1 .1 .0 ∙ @pre .1 .0 .0 .length-places; length-path = @pre .1 .0 .1; length-tail = @pre .1 .0 .2; length-heads = @pre .1 .0 .3 }, @pre .1 .1 .0, @pre .1 .1 .1, @pre .1 .1 .2, @pre .1 .1 .3))
+    ((record { placed = @pre .0 .0 .placed; accepted = @pre .0 .0 .accepted; weighed = @pre .0 .0 .weighed; tabled = @pre .0 .0 .tabled; transports = @transports .ensures }, record { roomy = @pre .0 .1; sixteen = @good .1 .1 .1 .1 .0 .1 .0 .1; well = @pre .0 .2 }, @time-sequences .ensures .1 .1 (granted _ (@if1 .left))), (@time-sequences .ensures .1 .0, record { length-before = @time-sequences .kept .1 .1 .1 .1 .1 .1 .0 ∙ @pre .1 .0 .0 .length-before; length-after = @time-sequences .kept .1 .1 .1 .1 .1 .1 .1 .0 ∙ @pre .1 .0 .0 .length-after; length-machines = @time-sequences .kept .1 .1 .1 .1 .1 .1 .1 .1 .0 ∙ @pre .1 .0 .0 .length-machines; length-places = @time-sequences .kept .1 .1 .1 .1 .1 .1 .1 .1 .1 .0 ∙ @pre .1 .0 .0 .length-places; length-path = @pre .1 .0 .1; length-tail = @pre .1 .0 .2; length-heads = @pre .1 .0 .3 }, @pre .1 .1 .0, @pre .1 .1 .1, @pre .1 .1 .2, @pre .1 .1 .3))
 
 same-length-8 : tie.Need-same-length-8
-same-length-8 c = @see .kept .1 .1 .1 .1 .1 .1 .1 .1 .1 .0 ∙ @time-sequences .kept .1 .1 .1 .1 .1 .1 .0
+same-length-8 c = @time-sequences .kept .1 .1 .1 .1 .1 .1 .0
 
 same-length-9 : tie.Need-same-length-9
-same-length-9 c = @see .kept .1 .1 .1 .1 .1 .1 .1 .1 .1 .1 .0 ∙ @time-sequences .kept .1 .1 .1 .1 .1 .1 .1 .0
+same-length-9 c = @time-sequences .kept .1 .1 .1 .1 .1 .1 .1 .0
 
 same-length-10 : tie.Need-same-length-10
-same-length-10 c = @see .kept .1 .1 .1 .1 .1 .1 .1 .1 .1 .1 .1 .0 ∙ @time-sequences .kept .1 .1 .1 .1 .1 .1 .1 .1 .0
+same-length-10 c = @time-sequences .kept .1 .1 .1 .1 .1 .1 .1 .1 .0
 
 same-length-11 : tie.Need-same-length-11
-same-length-11 c = @see .kept .1 .1 .1 .1 .1 .1 .1 .1 .1 .1 .1 .1 .0 ∙ @time-sequences .kept .1 .1 .1 .1 .1 .1 .1 .1 .1 .0
+same-length-11 c = @time-sequences .kept .1 .1 .1 .1 .1 .1 .1 .1 .1 .0
 
 same-length-12 : tie.Need-same-length-12
 same-length-12 c = @time-sequences .kept .1 .1 .1 .1 .1 .1 .1 .1 .1 .1 .0
