@@ -2,4 +2,3 @@ pub mod PrefixLaws
 pub mod SheetLaws
 pub mod AgainLaws
 pub mod Demand3
-pub mod OutcomeLaws

@@ -1,3 +1,2 @@
 pub mod BoardLaws
 pub mod CallLaws
-pub mod OneOutcome

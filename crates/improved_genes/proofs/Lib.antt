@@ -13,3 +13,4 @@ pub mod NextLaws
 pub mod ReassignLaws
 pub mod ReassignTheorem
 pub mod Theorem
+pub mod StoredLaws

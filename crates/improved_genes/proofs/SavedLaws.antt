@@ -28,8 +28,9 @@ use Rattle.genes.proofs.LinesLaws.{misses-nothing, lines-same}
 use Rattle.timing.specs.Timing.{timingOrder, countsFor}
 use Rattle.timing.proofs.LinesShop.{shop, counted}
 use Rattle.search.specs.Saving.{tasksOf}
-use Rattle.improved_genes.specs.Written.{Able, WholeGenes, genesWritten}
-use Rattle.improved_genes.proofs.TaskCount.{tasks-length, as-often}
+use Rattle.renewed.specs.Meaning.{genesWritten}
+use Rattle.improved_genes.specs.Written.{Able, WholeGenes}
+use Rattle.improved_genes.proofs.TaskCount.{tasks-length, tasks-known, as-often}
 use Rattle.improved_genes.proofs.PathLaws.{each-is, order-known}
 use Rattle.improved_genes.proofs.TurnLaws.{indexed-back, none-taken}
 use Rattle.improved_genes.proofs.LineTurns.{lines-back}
@@ -79,6 +80,7 @@ module _ (p : Problem) (g : Genes) (ok : Accepted p g) {lines : Lines} (s : Soun
   saved-whole =
       record {
         all-named = tasks-many;
+        named-known = λ i h. tasks-known ok order (order-known p g ok lines (s .sixteen) (s .well)) i (omega (arith, h, order-full));
         as-often = as-often ok order (order-known p g ok lines (s .sixteen) (s .well)) each-once;
         all-seated = machines-many;
         known = known;

@@ -6,7 +6,7 @@ use mathlib.Core.List.{List, [], _∷_}
 use native.Mathlib.Omega.{arith}
 use borrow.Author.Tests.{eq-eqb, ne-eqb}
 use lib.Dec.{eqb}
-use lib.ListN.{length}
+use lib.ListN.{length, getD}
 use Rattle.graph.specs.Counting.{bit, hit, countOf, sumTo, Below}
 use Rattle.graph.proofs.CountingLaws.{either, hit-eq, hit-ne, sumTo-ap, sumTo-add, sumTo-zero}
 use Rattle.plan.specs.Problem.{Problem, Genes}
@@ -99,6 +99,13 @@ module _ {p : Problem} {g : Genes} (ok : Accepted p g) where
   own-task t a h l k =
       let mine = ok .owned a (omega (arith, k, task-within ok t h)) in
       same-task ok (p .taskOf a) t (a - p .first (p .taskOf a)) (a - p .first t) (omega (arith, mine .0, mine .1)) (omega arith) (omega (arith, mine .0))
+
+  -- each number is a task
+  pub tasks-known : (order : List ℕ) → Below (p .n) order → (i : ℕ) → i < length order → getD (tasksOf p order) i 0 < p .tasks
+  unfolding tasksOf Below
+  tasks-known [] b i h = absurd (omega arith)
+  tasks-known (a ∷ order) b zero h = ok .owner a (b .0)
+  tasks-known (a ∷ order) b (suc i) h = tasks-known order (b .1) i (omega arith)
 
   pub as-often : (order : List ℕ) → Below (p .n) order → ((a : ℕ) → a < p .n → countOf a order ≡ 1) → (t : ℕ) → t < p .tasks → countOf t (tasksOf p order) ≡ p .steps t
   as-often order known once t h =

@@ -1,17 +1,17 @@
 -- Document 01, outcomes 13 and 14: what Improve's answer says of the genes that it was given, and of those that it writes.
 use Prim.Native.Nat.{ℕ, _<_}
 use mathlib.Core.Path.{_≡_}
-use mathlib.Core.Bool.{true, false, cond}
+use mathlib.Core.Bool.{true, false}
 use mathlib.Core.List.{List}
 use mathlib.Core.Logic.{_⊎_}
-use mathlib.Core.Option.{none, some}
-use lib.Dec.{ltb}
+use mathlib.Core.Option.{some}
 use lib.Ieee.{Float, lt}
 use lib.ListN.{length, getD}
 use Rattle.graph.specs.Counting.{countOf}
 use Rattle.plan.specs.Problem.{Problem, Genes}
 use Rattle.plan.specs.Accepted.{Accepted}
 use Rattle.genes.specs.Indexed.{misses, linesOfGenes}
+use Rattle.renewed.specs.Meaning.{genesWritten}
 use Rattle.timing.specs.Timing.{contradicts}
 use Rattle.trial.specs.Trial.{lineFitness}
 use Rattle.search.specs.Search.{nothingBetter, improved, improve}
@@ -27,15 +27,11 @@ Able p g a m = (0 < countOf m (p .candidates a)) ⊎ (g .assigned a ≡ some m)
 -- each task is named as often as it has activities, and each activity has a machine
 pub record WholeGenes (p : Problem) (g : Genes) (tasks machines : List ℕ) : Type 0 where
   pub all-named : length tasks ≡ p .n
+  pub named-known : (i : ℕ) → i < p .n → getD tasks i 0 < p .tasks
   pub as-often : (t : ℕ) → t < p .tasks → countOf t tasks ≡ p .steps t
   pub all-seated : length machines ≡ p .n
   pub known : (a : ℕ) → a < p .n → getD machines a 0 < p .machines
   pub able : (a : ℕ) → a < p .n → Able p g a (getD machines a 0)
-
--- the genes that the two lists hold
-abbrev pub genesWritten : (tasks machines : List ℕ) → Genes
-genesWritten tasks machines =
-    record { order = tasks; assigned = λ a. cond (ltb a (length machines)) (some (getD machines a 0)) none }
 
 -- what is so of a fitness and of the genes written with it: they can stand in the plan, and timed as they stand they have that fitness
 pub record Better (p : Problem) (g : Genes) (f : Float) (tasks machines : List ℕ) : Type 0 where

@@ -13,8 +13,7 @@ use Rattle.plan.specs.Problem.{Problem}
 use Rattle.intake.specs.Intake.{problemIn, takenIn}
 use Rattle.lines.specs.Lines.{Lines}
 use Rattle.timing.specs.Timing.{contradicts}
-use Rattle.looking.specs.declared.Answer.{Answer as Told}
-use Rattle.looking.specs.Looking.{Outcome, no, seen, sightOf, answerOf, Leaves, eightIf, sevenUnless, seenLines, seenIf, seenPlan, sixUnless, roomy}
+use Rattle.looking.specs.Looking.{Outcome, no, seen, sightOf, Leaves, eightIf, sevenUnless, seenLines, seenIf, seenPlan, sixUnless, roomy}
 
 -- ---- numbers 6, 7 and 8
 
@@ -77,12 +76,6 @@ leaves-as {x} {y} {p₀} {m₀} {k₀} {r₀} {p} {m} {k} {r} e l = subst (λ (o
 -- A refusal leaves all as it was.
 pub refused : {number place : ℕ} {o : Outcome} {p m k r : List ℕ} → no number place ≡ o → Leaves o p m k r p m k r
 refused e = leaves-as e (record { path = refl; moves = refl; kept = refl; ranks = refl })
-
--- Any two answers and contents that the contract permits, for the same input and the same buffers before it, are equal.
-pub one-outcome : {o : Outcome} {x y : Told} {p₀ m₀ k₀ r₀ p m k r q n l s : List ℕ} → x ≡ answerOf o → y ≡ answerOf o
-    → Leaves o p₀ m₀ k₀ r₀ p m k r → Leaves o p₀ m₀ k₀ r₀ q n l s → (x ≡ y) × (p ≡ q) × (m ≡ n) × (k ≡ l) × (r ≡ s)
-one-outcome a b v w =
-    (a ∙ sym b, v .path ∙ sym (w .path), v .moves ∙ sym (w .moves), v .kept ∙ sym (w .kept), v .ranks ∙ sym (w .ranks))
 
 -- ---- numbers 1 to 5, and else the plan is taken in
 

@@ -22,8 +22,7 @@ use Rattle.plan.specs.Problem.{Problem, Genes}
 use Rattle.plan.specs.Found.{layoutOf}
 use Rattle.plan.specs.Laid.{Laid}
 use Rattle.plan.specs.declared.Layout.{Layout}
-use Rattle.intake.specs.Circle.{closesCircle}
-use Rattle.intake.specs.Intake.{problemIn, genesIn, refusedIf, thenCircle, takenIn}
+use Rattle.intake.specs.Intake.{problemIn, genesIn, takenIn}
 use Rattle.intake.specs.Sound.{Sound}
 use Rattle.intake.proofs.TakingLaws.{never-taken}
 use Rattle.intake.proofs.Soundness.{taken-in-means}
@@ -39,13 +38,15 @@ use Rattle.writing.specs.Writing.{Put}
 use Rattle.writing.proofs.WritingLaws.{put-as}
 use Rattle.printing.specs.Printing.{sheetText, refusalText}
 use Rattle.renewed.specs.Renewed.{renewedBytes}
+use Rattle.renewed.specs.Meaning.{renewedPlan}
 use Rattle.renewed.proofs.RenewedLaws.{length-renewed}
+use Rattle.renewed.proofs.TakenLaws.{taken-read}
 use Rattle.search.specs.Search.{Improved, noSteps, incomplete, contradictory, nothingBetter, improved, improve}
 use Rattle.improving.specs.Improving.{Outcome as Improving, no as refused, came, answerOf as improveAnswer, tasksLeft, machinesLeft, improvedIf, improvedPlan, roomy, improvedIn}
 use Rattle.improving.specs.declared.Answer.the-variants.{NoSteps, Incomplete, Contradictory, NothingBetter, Better}
 use Rattle.improving.specs.declared.Answer.the-variants as improving
 use Rattle.improving.proofs.CallLaws.{roomy-on}
-use Rattle.terminal_text.specs.Shown.{sheetOr, decodeText, renewedPlan, shownIf, shown, enough, shownOver, shownLength}
+use Rattle.terminal_text.specs.Shown.{sheetOr, decodeText, shownIf, shown, enough, shownOver, shownLength}
 use Rattle.terminal_text.proofs.SizedLaws.{Named, improve-named}
 
 -- ---- a sheet's columns
@@ -113,18 +114,6 @@ sheet-room (sheet rows c f) {n} {bits} a₀ m₀ s₀ e₀ u₀ told even left =
     )
 
 -- ---- a plan that was taken in
-
--- It was read so.
-pub taken-read : (s : List ℕ) → takenIn s .answer ≡ Accepted → takenIn s ≡ readAll s
-taken-read s t = by-answer (readAll s .answer) t
-  where
-    by-circle : (b : Bool) → refusedIf b (readAll s) .answer ≡ Accepted → refusedIf b (readAll s) ≡ readAll s
-    by-circle true t = let z : _≡_ {A = ℕ} 0 1 = cc in absurd (omega arith)
-    by-circle false t = refl
-
-    by-answer : (a : ReadersAnswer) → thenCircle a s (readAll s) .answer ≡ Accepted → thenCircle a s (readAll s) ≡ readAll s
-    by-answer Accepted t = by-circle (closesCircle (problemIn s (readAll s))) t
-    by-answer (No number place) t = refl
 
 -- The words before its Order section are all there, and with a new Order and Assignment it is still short enough.
 pub record Short (s : List ℕ) (z : Layout) : Type 0 where

@@ -1,22 +1,19 @@
 -- Document 01, "Plans to hold on the card board": the program improves a plan and prints `decode`: the outcome, then the fitness and the rows of
 -- the sheet that is shown. At 14 that is the sheet of the plan with the new order and machines, at 10 to 13 of the plan as it is. A refusal is
 -- one line.
-use Prim.Native.Nat.{ℕ, _*_, _≤_}
-use mathlib.Core.Path.{_≡_}
+use Prim.Native.Nat.{ℕ}
 use mathlib.Core.Bool.{cond}
 use mathlib.Core.List.{List}
 use lib.Dec.{leb}
 use lib.Ieee.{toBits, binary64}
-use lib.ListN.{length, take}
+use lib.ListN.{length}
 use Rattle.words.specs.Text.{written}
-use Rattle.plan.specs.Found.{layoutOf}
-use Rattle.intake.specs.Intake.{takenIn}
 use Rattle.calls.specs.Outcome.{Outcome, no, sheet}
 use Rattle.decode.specs.Decode.{betterPlacement}
 use Rattle.decoding.specs.Decoding.{decodedPlan}
 use Rattle.search.specs.Search.{Improved, noSteps, incomplete, contradictory, nothingBetter, improved, number}
 use Rattle.improving.specs.Improving.{Outcome as Improving, no as refused, came, improvedPlan}
-use Rattle.renewed.specs.Renewed.{renewedBytes}
+use Rattle.renewed.specs.Meaning.{renewedPlan}
 use Rattle.printing.specs.Printing.{sheetText, refusalText}
 
 -- A sheet, the outcome above it; or a refusal. The fitness is the sheet's own.
@@ -26,13 +23,6 @@ sheetOr outcome (sheet rows c f) = sheetText outcome (toBits binary64 f) (c .act
 
 abbrev pub decodeText : (outcome : ℕ) → (bytes : List ℕ) → List ℕ
 decodeText outcome s = sheetOr outcome (decodedPlan betterPlacement s)
-
--- The bytes before the Order section, and the plan with another order and other machines after them.
-abbrev pub beforeOrder : (bytes : List ℕ) → List ℕ
-beforeOrder s = take (4 * layoutOf (takenIn s) .at .order) s
-
-abbrev pub renewedPlan : (bytes tasks machines : List ℕ) → List ℕ
-renewedPlan s tasks machines = renewedBytes (beforeOrder s) tasks machines
 
 -- The plan whose sheet is shown.
 abbrev pub planShown : Improved → (bytes : List ℕ) → List ℕ

@@ -9,7 +9,8 @@ ghost use Rattle.plan.specs.Found.{layoutOf};
 ghost use Rattle.intake.specs.Intake.{takenIn};
 ghost use Rattle.writing.specs.Writing.{Put};
 ghost use Rattle.printing.specs.Printing.{sheetText};
-ghost use Rattle.terminal_text.specs.Shown.{decodeText, renewedPlan, shown, enough, shownOver, shownLength};
+ghost use Rattle.renewed.specs.Meaning.{renewedPlan};
+ghost use Rattle.terminal_text.specs.Shown.{decodeText, shown, enough, shownOver, shownLength};
 
 // Puts a sheet of n rows, which are the first cells of five columns.
 fn put_first(

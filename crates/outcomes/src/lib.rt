@@ -1,0 +1,1 @@
+// No code: what is proved of all public calls together.
