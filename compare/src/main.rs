@@ -15,7 +15,7 @@ use compare::{
 };
 
 /// Every way to call the tools; the first one stands for all modes.
-const USAGES: [&str; 19] = [
+const USAGES: [&str; 20] = [
     "MODE [INPUT [LINES]]",
     "to-text [INPUT]",
     "from-text [TEXT]",
@@ -34,6 +34,7 @@ const USAGES: [&str; 19] = [
     "speed [WORK... | --only SIDE WORK PLAN TIMES]",
     "store [FOLDER]",
     "answers-check [FOLDER]",
+    "replay [FOLDER]",
     "board",
 ];
 
@@ -134,6 +135,8 @@ fn dispatch(arguments: &[OsString]) -> Result<Said, String> {
         ["store", _] => Ok(store::store(file(1).as_ref())?.into()),
         ["answers-check"] => Ok(store::check(store::FOLDER.as_ref())?.into()),
         ["answers-check", _] => Ok(store::check(file(1).as_ref())?.into()),
+        ["replay"] => Ok(store::replay(store::FOLDER.as_ref(), store::REPLAYED.as_ref())?.into()),
+        ["replay", _] => Ok(store::replay(store::FOLDER.as_ref(), file(1).as_ref())?.into()),
         ["board"] => Ok(board::page()?.into()),
         [] => Err(format!("usage: compare {}", USAGES.join(" | "))),
         [name, rest @ ..] => match (Mode::named(name), USAGES[1..].iter().find(|usage| name_in(usage) == *name)) {

@@ -1,5 +1,6 @@
 //! Stored answers, for tests that have no Rust at hand: `store` chooses inputs and writes the Rust's answers beside
-//! them, `check` runs the stored inputs again. The README describes the files.
+//! them, `check` runs the stored inputs again, `replay` writes them for the proved program that prints their sheets. The
+//! README describes the files.
 
 use std::collections::{BTreeMap, BTreeSet};
 use std::fmt::Write;
@@ -17,6 +18,9 @@ use crate::text;
 
 /// Where the answers of this package lie.
 pub const FOLDER: &str = concat!(env!("CARGO_MANIFEST_DIR"), "/answers");
+
+/// Where the proved program that prints the stored plans' sheets has its input and the print due.
+pub const REPLAYED: &str = concat!(env!("CARGO_MANIFEST_DIR"), "/../crates/replayed");
 
 /// A file is closed before it would grow beyond this; one long case may.
 const LONGEST_FILE: usize = 140_000;
@@ -187,6 +191,43 @@ fn unhex(digits: &str) -> Option<Vec<u8>> {
     let byte = |pair: &[u8]| u8::from_str_radix(std::str::from_utf8(pair).ok()?, 16).ok();
     let known = digits.len() % 2 == 0 && digits.bytes().all(|digit| digit.is_ascii_hexdigit());
     known.then(|| digits.as_bytes().chunks(2).map(byte).collect()).flatten()
+}
+
+// --------------------------------------------------------------------------------- for the program `replayed`
+
+/// The longest plan that the program takes.
+const LONGEST_PLAN: usize = 65_536;
+
+/// Writes the stored plans of a folder as the program takes them, each after its length, and what it has to print: what
+/// mode `program` prints for each now, which must be what is stored. Says how many there are.
+pub fn replay(answers: &Path, folder: &Path) -> Result<String, String> {
+    let (mut stdin, mut stdout) = (Vec::new(), String::new());
+    let mut number = 0;
+    for (file, stored) in stored_files(answers)? {
+        let of_file = |message: String| format!("{file}: {message}");
+        for (case, stored) in cases_of(&stored).map_err(of_file)? {
+            if case.lines.is_some() {
+                continue;
+            }
+            let print = answer(&case.input, Mode::Program, None).map_err(of_file)?;
+            if !stored.contains(&format!("\nprogram\n{print}improve\n")) {
+                return Err(of_file(format!("case {}: the stored print is not what `program` prints", case.name)));
+            }
+            if case.input.len() > LONGEST_PLAN {
+                return Err(of_file(format!("case {}: longer than the program takes", case.name)));
+            }
+            stdin.extend((case.input.len() as u32).to_le_bytes());
+            stdin.extend(&case.input);
+            stdout.push_str(&print);
+            number += 1;
+        }
+    }
+    let said = format!("replay: {number} plans, {} bytes to read, {} to print\n", stdin.len(), stdout.len());
+    for (name, bytes) in [("stdin", stdin), ("stdout", stdout.into_bytes())] {
+        let path = folder.join(name);
+        std::fs::write(&path, bytes).map_err(|why| format!("{}: {why}", path.display()))?;
+    }
+    Ok(said)
 }
 
 // ----------------------------------------------------------------------------------------------- the choice

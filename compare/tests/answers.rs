@@ -51,3 +51,34 @@ fn a_changed_answer_is_seen() {
     assert!(told("rust-plans-1.txt", "case x\ninput 0\nend\n").is_err(), "half a byte");
     assert!(store::check(&fresh("none")).is_err());
 }
+
+#[test]
+fn replay_writes_each_stored_plan_and_its_print() {
+    let folder = fresh("replayed");
+    store::replay(store::FOLDER.as_ref(), &folder).unwrap();
+    let (stdin, stdout) = (fs::read(folder.join("stdin")).unwrap(), fs::read_to_string(folder.join("stdout")).unwrap());
+    let mut plans = Vec::new();
+    let mut rest = stdin.as_slice();
+    while let Some((length, more)) = rest.split_first_chunk::<4>() {
+        let (plan, more) = more.split_at(u32::from_le_bytes(*length) as usize);
+        plans.push(plan);
+        rest = more;
+    }
+    assert!(rest.is_empty());
+    let shown = |plan: &&[u8]| compare::modes::answer(plan, compare::modes::Mode::Program, None).unwrap();
+    assert_eq!(plans.iter().map(shown).collect::<String>(), stdout);
+    let numbers = ["outcome 10", "outcome 11", "outcome 12", "outcome 13", "outcome 14"];
+    let refusals = ["refused 1 ", "refused 2 ", "refused 3 ", "refused 4 ", "refused 5 "];
+    for number in numbers.into_iter().chain(refusals) {
+        assert!(stdout.lines().any(|line| line.starts_with(number)), "{number}");
+    }
+}
+
+#[test]
+fn a_changed_print_is_not_replayed() {
+    let kept = files(store::FOLDER.as_ref());
+    let folder = fresh("changed-print");
+    let changed = kept["rust-plans-1.txt"].replacen("outcome 14", "outcome 13", 1);
+    fs::write(folder.join("rust-plans-1.txt"), changed).unwrap();
+    assert!(store::replay(&folder, &fresh("not-replayed")).is_err());
+}

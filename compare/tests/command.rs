@@ -42,7 +42,7 @@ fn said<S: AsRef<OsStr> + std::fmt::Debug>(arguments: &[S], input: &[u8]) -> Str
 #[test]
 fn bad_arguments_are_one_line_and_2() {
     let here = env!("CARGO_MANIFEST_DIR");
-    let bad: [&[&str]; 70] = [
+    let bad: [&[&str]; 72] = [
         &[],
         &["no-such-mode"],
         &[""],
@@ -113,6 +113,8 @@ fn bad_arguments_are_one_line_and_2() {
         &["store", "/dev/null/x"],
         &["answers-check", "no/such/folder"],
         &["answers-check", here],
+        &["replay", "no/such/folder"],
+        &["replay", here, here],
     ];
     for arguments in bad {
         is_one_line_and_2(arguments, &[]);

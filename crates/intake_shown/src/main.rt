@@ -1,6 +1,7 @@
 // Takes in plans from standard input, one after the other, each after its length in bytes as a little-endian word, and writes a line
 // for each: what the terminal would show where it refuses it, else how many tasks, activities and machines it has.
 use reader::Answer;
+use stream::Next;
 
 fn main() {
     let mut space = io::large_buffer();
@@ -17,25 +18,10 @@ fn main() {
 
 // Takes in one plan, unless the input has ended. No accepted plan fills the buffer.
 fn take_one(plan: &mut [u8]) -> bool {
-    let mut head = [0u8; 4];
-    let got = io::read_full(0, &mut head);
-    if got < 4 {
+    let Next::Plan(n) = stream::next_plan(plan) else {
         return false;
-    }
-    let n = words::word(&head, 0) as usize;
-    if plan.len() < n {
-        return false;
-    }
-    take_bytes(&mut plan[..n])
-}
-
-// Takes in a plan of as many bytes as the buffer has.
-fn take_bytes(plan: &mut [u8]) -> bool {
-    let length = io::read_full(0, plan);
-    if length < plan.len() {
-        return false;
-    }
-    show(plan);
+    };
+    show(&plan[..n]);
     true
 }
 

@@ -113,7 +113,8 @@ pub fn put_sheet(
 ) -> usize
     requires { ⌜ 64 + 105 * length (now activities) ≤ length (now line) ⌝ }
     requires { ⌜ (length (now machines) ≡ length (now activities)) × (length (now starts) ≡ length (now activities)) × (length (now ends) ≡ length (now activities)) × (length (now setups) ≡ length (now activities)) ⌝ }
-    ensures { λ r. ⌜ Put (now (line .entry)) 0 (sheetText outcome bits (now (activities .entry)) (now (machines .entry)) (now (starts .entry)) (now (ends .entry)) (now (setups .entry))) (now (line .exit)) r ⌝ }
+    ensures text { λ r. ⌜ Put (now (line .entry)) 0 (sheetText outcome bits (now (activities .entry)) (now (machines .entry)) (now (starts .entry)) (now (ends .entry)) (now (setups .entry))) (now (line .exit)) r ⌝ }
+    ensures short { λ r. ⌜ r ≤ 64 + 105 * length (now (activities .entry)) ⌝ }
 {
     let next = put_head(line, outcome, bits);
     put_rows(line, next, activities, machines, starts, ends, setups)
@@ -122,7 +123,8 @@ pub fn put_sheet(
 // A refusal, 50 bytes at most.
 pub fn put_refusal(line: &mut [u8], number: u64, place: u64) -> usize
     requires { ⌜ 64 ≤ length (now line) ⌝ }
-    ensures { λ r. ⌜ Put (now (line .entry)) 0 (refusalText number place) (now (line .exit)) r ⌝ }
+    ensures text { λ r. ⌜ Put (now (line .entry)) 0 (refusalText number place) (now (line .exit)) r ⌝ }
+    ensures short { λ r. ⌜ r ≤ 64 ⌝ }
 {
     let first = writing::put_text(line, 0, b"refused ");
     let second = put_number(line, first, number, b' ');

@@ -14,22 +14,6 @@ fn main() {
 // Reads one plan, and prints what is shown for it.
 fn serve(plan: &mut [u8], text: &mut [u8]) {
     let length = io::read_full(0, plan);
-    print(plan, length, text);
-}
-
-// Prints what is shown for the plan in the first bytes.
-fn print(plan: &[u8], length: usize, text: &mut [u8]) {
-    if plan.len() < length {
-        return;
-    }
     let shown = terminal_text::show(&plan[..length], text);
-    write_first(text, shown);
-}
-
-// Writes the first bytes of a text. The text has room for all that is shown.
-fn write_first(text: &[u8], shown: usize) {
-    if text.len() < shown {
-        return;
-    }
     io::write_all(1, &text[..shown]);
 }

@@ -35,7 +35,7 @@ use Rattle.calls.proofs.PrefixLaws.{prefix-is}
 use Rattle.decode.specs.Decode.{betterPlacement}
 use Rattle.decoding.specs.Decoding.{decodedIf, decodedPlan, boardSheet}
 use Rattle.writing.specs.Writing.{Put}
-use Rattle.writing.proofs.WritingLaws.{put-as}
+use Rattle.writing.proofs.WritingLaws.{put-as, put-long}
 use Rattle.printing.specs.Printing.{sheetText, refusalText}
 use Rattle.renewed.specs.Renewed.{renewedBytes}
 use Rattle.renewed.specs.Meaning.{renewedPlan}
@@ -46,7 +46,7 @@ use Rattle.improving.specs.Improving.{Outcome as Improving, no as refused, came
 use Rattle.improving.specs.declared.Answer.the-variants.{NoSteps, Incomplete, Contradictory, NothingBetter, Better}
 use Rattle.improving.specs.declared.Answer.the-variants as improving
 use Rattle.improving.proofs.CallLaws.{roomy-on}
-use Rattle.terminal_text.specs.Shown.{sheetOr, decodeText, shownIf, shown, enough, shownOver, shownLength}
+use Rattle.terminal_text.specs.Shown.{sheetOr, decodeText, shownIf, shown, enough, PutShort, Within, shownOver, shownLength}
 use Rattle.terminal_text.proofs.SizedLaws.{Named, improve-named}
 
 -- ---- a sheet's columns
@@ -292,13 +292,33 @@ cond-false : {A : Type 0} (b : Bool) (x y : A) → b ≡ false → y ≡ cond b 
 cond-false true x y e = absurd (false≢true (sym e))
 cond-false false x y e = refl
 
-pub shown-put : (s out : List ℕ) {line : List ℕ} {place : ℕ} → enough ≤ length out → Put out 0 (shown s) line place → (line ≡ shownOver s out) × (place ≡ shownLength s out)
-shown-put s out h p =
+pub short-as : {line₀ t u line : List ℕ} {place : ℕ} → t ≡ u → PutShort line₀ t line place → PutShort line₀ u line place
+short-as e p = (put-as e (p .0), p .1)
+
+-- A refusal is one line.
+pub refusal-short : {line₀ t u line : List ℕ} {place : ℕ} → t ≡ u → Put line₀ 0 t line place × (place ≤ 64) → PutShort line₀ u line place
+refusal-short e p = (put-as e (p .0), omega (arith, p .1))
+
+-- A sheet has at most 128 rows.
+pub rows-short : {line₀ t line : List ℕ} {place : ℕ} (n : ℕ) (column : List ℕ) → n ≤ 128 → n ≤ length column → Put line₀ 0 t line place × (place ≤ 64 + 105 * length (take n column)) → PutShort line₀ t line place
+rows-short n column few h p = let long = length-take-le n column h in (p .0, omega (arith, p .1, long, few))
+
+within : (n : ℕ) (line : List ℕ) → n ≤ length line → Within n line
+within n line h = (h, sym (length-take-le n line h))
+
+pub shown-put : (s out : List ℕ) {line : List ℕ} {place : ℕ} → enough ≤ length out → PutShort out (shown s) line place
+    → (line ≡ shownOver s out) × ((place ≡ shownLength s out) × ((place ≤ enough) × Within place line))
+shown-put s out {line} {place} h (p, short) =
     let b = le-leb 16384 (length out) h in
     let z : 0 + length (shown s) ≡ length (shown s) = omega arith in
-    (p .holds ∙ cond-true (leb 16384 (length out)) (written out 0 (shown s)) out b, p .ends ∙ z ∙ cond-true (leb 16384 (length out)) (length (shown s)) 0 b)
+    let long = put-long p in (
+      p .holds ∙ cond-true (leb 16384 (length out)) (written out 0 (shown s)) out b,
+      (p .ends ∙ z ∙ cond-true (leb 16384 (length out)) (length (shown s)) 0 b, (short, within place line (omega (arith, short, long, h)))),
+    )
 
-pub not-shown : (s out : List ℕ) → length out < enough → (out ≡ shownOver s out) × (0 ≡ shownLength s out)
+pub not-shown : (s out : List ℕ) → length out < enough → (out ≡ shownOver s out) × ((0 ≡ shownLength s out) × ((0 ≤ enough) × Within 0 out))
 not-shown s out h =
-    let b = lt-leb 16384 (length out) h in
-    (cond-false (leb 16384 (length out)) (written out 0 (shown s)) out b, cond-false (leb 16384 (length out)) (length (shown s)) 0 b)
+    let b = lt-leb 16384 (length out) h in (
+      cond-false (leb 16384 (length out)) (written out 0 (shown s)) out b,
+      (cond-false (leb 16384 (length out)) (length (shown s)) 0 b, (omega arith, within 0 out (omega arith))),
+    )

@@ -8,6 +8,7 @@ use lib.Dec.{leb}
 use lib.Ieee.{toBits, binary64}
 use lib.ListN.{length}
 use Rattle.words.specs.Text.{written}
+use Rattle.writing.specs.Writing.{Put}
 use Rattle.calls.specs.Outcome.{Outcome, no, sheet}
 use Rattle.decode.specs.Decode.{betterPlacement}
 use Rattle.decoding.specs.Decoding.{decodedPlan}
@@ -43,6 +44,14 @@ shown s = shownIf (improvedPlan s) s
 -- Room for any text that is shown: at most 64 bytes, and 105 for each of 128 rows.
 abbrev pub enough : ℕ
 enough = 16384
+
+-- A text put at the start of a buffer, and no longer than that.
+abbrev pub PutShort : (before text line : List ℕ) → (place : ℕ) → Type 0
+PutShort before text line place = Put before 0 text line place × (place ≤ enough)
+
+-- A length within a buffer. The second part follows from the first; to lend that part of the buffer asks for both.
+abbrev pub Within : (n : ℕ) → (line : List ℕ) → Type 0
+Within n line = (n ≤ length line) × (n ≡ length (take n line))
 
 -- The text over the first bytes of a buffer, and its length; nothing where the buffer is too short.
 abbrev pub shownOver : (bytes out : List ℕ) → List ℕ

@@ -7,10 +7,9 @@ ghost use lib.ListN.{length, take};
 ghost use Rattle.reader.specs.declared.Answer.the-variants.{Accepted};
 ghost use Rattle.plan.specs.Found.{layoutOf};
 ghost use Rattle.intake.specs.Intake.{takenIn};
-ghost use Rattle.writing.specs.Writing.{Put};
 ghost use Rattle.printing.specs.Printing.{sheetText};
 ghost use Rattle.renewed.specs.Meaning.{renewedPlan};
-ghost use Rattle.terminal_text.specs.Shown.{decodeText, shown, enough, shownOver, shownLength};
+ghost use Rattle.terminal_text.specs.Shown.{decodeText, shown, enough, PutShort, Within, shownOver, shownLength};
 
 // Puts a sheet of n rows, which are the first cells of five columns.
 fn put_first(
@@ -26,7 +25,7 @@ fn put_first(
 ) -> usize
     requires { ⌜ (n ≤ 128) × (enough ≤ length (now out)) ⌝ }
     requires { ⌜ (n ≤ length (now activities)) × (n ≤ length (now machines)) × (n ≤ length (now starts)) × (n ≤ length (now ends)) × (n ≤ length (now setups)) ⌝ }
-    ensures { λ r. ⌜ Put (now (out .entry)) 0 (sheetText outcome bits (take n (now (activities .entry))) (take n (now (machines .entry))) (take n (now (starts .entry))) (take n (now (ends .entry))) (take n (now (setups .entry)))) (now (out .exit)) r ⌝ }
+    ensures { λ r. ⌜ PutShort (now (out .entry)) (sheetText outcome bits (take n (now (activities .entry))) (take n (now (machines .entry))) (take n (now (starts .entry))) (take n (now (ends .entry))) (take n (now (setups .entry)))) (now (out .exit)) r ⌝ }
 {
     printing::put_sheet(
         out,
@@ -43,7 +42,7 @@ fn put_first(
 // Puts the better sheet of a plan and the outcome beside it, or the plan's refusal.
 fn show_sheet(s: &[u8], outcome: u64, out: &mut [u8]) -> usize
     requires { ⌜ enough ≤ length (now out) ⌝ }
-    ensures { λ r. ⌜ Put (now (out .entry)) 0 (decodeText outcome (now (s .entry))) (now (out .exit)) r ⌝ }
+    ensures { λ r. ⌜ PutShort (now (out .entry)) (decodeText outcome (now (s .entry))) (now (out .exit)) r ⌝ }
 {
     let mut activities = [0usize; 128];
     let mut machines = [0usize; 128];
@@ -81,7 +80,7 @@ fn show_sheet(s: &[u8], outcome: u64, out: &mut [u8]) -> usize
 // The same for a plan with the order and the machines that Improve wrote.
 fn show_renewed(s: &[u8], tasks: &[usize], machines: &[usize], out: &mut [u8]) -> usize
     requires { ⌜ (takenIn (now s) .answer ≡ Accepted) × (128 ≤ length (now tasks)) × (128 ≤ length (now machines)) × (enough ≤ length (now out)) ⌝ }
-    ensures { λ r. ⌜ Put (now (out .entry)) 0 (decodeText 14 (renewedPlan (now (s .entry)) (take (layoutOf (takenIn (now (s .entry))) .activities) (now (tasks .entry))) (take (layoutOf (takenIn (now (s .entry))) .activities) (now (machines .entry))))) (now (out .exit)) r ⌝ }
+    ensures { λ r. ⌜ PutShort (now (out .entry)) (decodeText 14 (renewedPlan (now (s .entry)) (take (layoutOf (takenIn (now (s .entry))) .activities) (now (tasks .entry))) (take (layoutOf (takenIn (now (s .entry))) .activities) (now (machines .entry))))) (now (out .exit)) r ⌝ }
 {
     let r = reader::read(s);
     let z = plan::layout_of(r);
@@ -92,7 +91,8 @@ fn show_renewed(s: &[u8], tasks: &[usize], machines: &[usize], out: &mut [u8]) -
     show_sheet(&bytes[..len], 14, out)
 }
 
-// Improves, and puts what Improve's answer asks for. The first three buffers are work space.
+// Improves, and puts what Improve's answer asks for. The first three buffers are work space. The line fitness of 13 and 14 is not shown: a
+// sheet has its own.
 fn show_in(
     s: &[u8],
     cells: &mut [usize],
@@ -101,7 +101,7 @@ fn show_in(
     out: &mut [u8],
 ) -> usize
     requires { ⌜ (length (now cells) ≡ 2048) × (length (now tasks) ≡ 128) × (length (now machines) ≡ 128) × (enough ≤ length (now out)) ⌝ }
-    ensures { λ r. ⌜ Put (now (out .entry)) 0 (shown (now (s .entry))) (now (out .exit)) r ⌝ }
+    ensures { λ r. ⌜ PutShort (now (out .entry)) (shown (now (s .entry))) (now (out .exit)) r ⌝ }
 {
     let answer = improving::improve(s, cells, tasks, machines);
     match answer {
@@ -111,8 +111,8 @@ fn show_in(
         Improved::NoSteps => show_sheet(s, 10, out),
         Improved::Incomplete => show_sheet(s, 11, out),
         Improved::Contradictory => show_sheet(s, 12, out),
-        Improved::NothingBetter(_) => show_sheet(s, 13, out),
-        Improved::Better(_) => show_renewed(s, tasks, machines, out),
+        Improved::NothingBetter(_line) => show_sheet(s, 13, out),
+        Improved::Better(_line) => show_renewed(s, tasks, machines, out),
     }
 }
 
@@ -121,6 +121,8 @@ fn show_in(
 pub fn show(s: &[u8], out: &mut [u8]) -> usize
     ensures text { λ _. ⌜ now (out .exit) ≡ shownOver (now (s .entry)) (now (out .entry)) ⌝ }
     ensures length { λ r. ⌜ r ≡ shownLength (now (s .entry)) (now (out .entry)) ⌝ }
+    ensures short { λ r. ⌜ r ≤ enough ⌝ }
+    ensures within { λ r. ⌜ Within r (now (out .exit)) ⌝ }
 {
     if out.len() < 16384 {
         return 0;

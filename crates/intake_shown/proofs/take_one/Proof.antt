@@ -1,59 +1,49 @@
-use mathlib.Core.Path.{sym}
-use denote.Ref.{now}
-use lib.Seq.{length-take-le}
+use Rattle.stream.proofs.StreamLaws.{plan-lies}
 use borrow.Author.Needs.{needs}
 use Rattle.intake_shown.proofs.take_one.Statement.{statement}
 use Rattle.intake_shown.proofs.take_one.Tie as tie
 
-slice-aggregate-read-full : tie.Need-slice-aggregate-read-full
-slice-aggregate-read-full c = search needs
+next-plan-requires : tie.Need-next-plan-requires
+next-plan-requires c κs = search needs
 
-read-full-requires : tie.Need-read-full-requires
-read-full-requires c κs = search needs
+enum-known-n : tie.Need-enum-known-n
+enum-known-n c = search needs
 
-returns : tie.Need-returns
-returns c = search needs
-
-slice-aggregate-word : tie.Need-slice-aggregate-word
-slice-aggregate-word c = search needs
-
-word-requires : tie.Need-word-requires
-word-requires c κs = search needs
-
-cast-n : tie.Need-cast-n
-cast-n c = search needs
-
-returns-2 : tie.Need-returns-2
-returns-2 c = search needs
-
-slice-relend-prefix-take-bytes : tie.Need-slice-relend-prefix-take-bytes
-slice-relend-prefix-take-bytes c = search needs
-
-slice-aggregate-take-bytes : tie.Need-slice-aggregate-take-bytes
-slice-aggregate-take-bytes c = let h = c .before .if2 .left in sym (length-take-le (c .before .before .word .result) (now (c .before .before .before .before .before .before .before .before .before .args .plan)) h)
-
-take-bytes-requires : tie.Need-take-bytes-requires
-take-bytes-requires c κs = search needs
+enum-told : tie.Need-enum-told
+enum-told c = search needs
 
 same-length : tie.Need-same-length
 same-length c = search needs
 
-returns-3 : tie.Need-returns-3
-returns-3 c = search needs
+returns : tie.Need-returns
+returns c = search needs
+
+slice-reshare-prefix-show : tie.Need-slice-reshare-prefix-show
+slice-reshare-prefix-show c = plan-lies (c .before .before .before .before .before .next-plan .last .0) (c .before .n .given .1) (c .before .before .before .before .before .next-plan .ensures) .0
+
+slice-aggregate-show : tie.Need-slice-aggregate-show
+slice-aggregate-show c = plan-lies (c .before .before .before .before .before .before .next-plan .last .0) (c .before .before .n .given .1) (c .before .before .before .before .before .before .next-plan .ensures) .1
+
+show-requires : tie.Need-show-requires
+show-requires c κs = search needs
+
+same-length-2 : tie.Need-same-length-2
+same-length-2 c = search needs
+
+returns-2 : tie.Need-returns-2
+returns-2 c = search needs
 
 pub take-one-spec : {M : Type 1} → statement M
 take-one-spec =
     tie.close
     (tie.spec
-    slice-aggregate-read-full
-    read-full-requires
-    returns
-    slice-aggregate-word
-    word-requires
-    cast-n
-    returns-2
-    slice-relend-prefix-take-bytes
-    slice-aggregate-take-bytes
-    take-bytes-requires
+    next-plan-requires
+    enum-known-n
+    enum-told
     same-length
-    returns-3)
+    returns
+    slice-reshare-prefix-show
+    slice-aggregate-show
+    show-requires
+    same-length-2
+    returns-2)

@@ -27,7 +27,7 @@ returns c =
     let o = c .before .before .before .before .before .before .before .before .before .before .put-text .ensures in
     let p = c .before .before .before .before .before .before .put-number .ensures in
     let q = c .before .before .put-number2 .ensures in
-    put-then (omega (arith, at .pre, o .ends, p .1, q .1)) (put-then (omega (arith, at .pre, o .ends, p .1)) o (p .0)) (q .0)
+    (put-then (omega (arith, at .pre, o .ends, p .1, q .1)) (put-then (omega (arith, at .pre, o .ends, p .1)) o (p .0)) (q .0), omega (arith, o .ends, p .1, q .1))
 
 pub put-refusal-spec : {M : Type 1} → statement M
 put-refusal-spec =

@@ -20,7 +20,7 @@ returns c =
     let at = c .before .before .before .before .before .before .before .before .before .before .before .before .before .before in
     let h = c .before .before .before .before .before .before .put-head .ensures in
     let r = c .before .before .put-rows .ensures in
-    put-then (omega (arith, at .pre .0, h .1, r .1)) (h .0) (r .0)
+    (put-then (omega (arith, at .pre .0, h .1, r .1)) (h .0) (r .0), omega (arith, h .1, r .1))
 
 pub put-sheet-spec : {M : Type 1} → statement M
 put-sheet-spec = tie.close (tie.spec put-head-requires put-rows-requires same-length returns)

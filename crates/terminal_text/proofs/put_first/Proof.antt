@@ -4,6 +4,7 @@ use native.Mathlib.Omega.{arith}
 use denote.Ref.{now}
 use lib.ListN.{length}
 use lib.Seq.{length-take-le}
+use Rattle.terminal_text.proofs.ShownLaws.{rows-short}
 use borrow.Author.Needs.{needs}
 use Rattle.terminal_text.proofs.put_first.Statement.{statement}
 use Rattle.terminal_text.proofs.put_first.Tie as tie
@@ -60,7 +61,9 @@ same-length c = search needs
 
 -- src/lib.rt:15:1
 returns : tie.Need-returns
-returns c = search needs
+returns c =
+    let at = c .before .before .before .before .before .before .before .before .before .before .before .before .before .before .before in
+    rows-short (at .args .n) (now (at .args .activities)) (at .pre .0 .0) (at .pre .1 .0) (c .before .before .put-sheet .ensures)
 
 pub put-first-spec : {M : Type 1} → statement M
 put-first-spec =

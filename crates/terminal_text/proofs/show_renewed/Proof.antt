@@ -4,8 +4,7 @@ use native.Mathlib.Omega.{arith}
 use denote.Ref.{now}
 use lib.ListN.{length, replicate, length-replicate}
 use lib.Seq.{length-take-le}
-use Rattle.terminal_text.proofs.ShownLaws.{read-short, read-layout, first-put, bytesNow, renewed-fits, renewed-is}
-use Rattle.writing.proofs.WritingLaws.{put-as}
+use Rattle.terminal_text.proofs.ShownLaws.{read-short, read-layout, first-put, bytesNow, renewed-fits, renewed-is, short-as}
 use Rattle.terminal_text.specs.Shown.{decodeText}
 use borrow.Author.Needs.{needs}
 use Rattle.terminal_text.proofs.show_renewed.Statement.{statement}
@@ -72,7 +71,7 @@ same-length : tie.Need-same-length
 same-length c = search needs
 
 returns : tie.Need-returns
-returns c = let short = read-short (now (c .before .before .before .before .before .before .before .before .before .before .before .before .before .before .before .before .before .args .s)) (c .before .before .before .before .before .before .before .before .before .before .before .before .before .before .before .before .before .pre .0) (c .before .before .before .before .before .before .before .before .before .before .before .before .read .ensures) (c .before .before .before .before .before .before .before .before .before .before .before .layout-of .ensures) in let fits = renewed-fits (now (c .before .before .before .before .before .before .before .before .before .before .before .before .before .before .before .before .before .args .s)) (now (c .before .before .before .before .before .before .before .before .before .before .before .before .before .before .before .before .before .args .tasks)) (now (c .before .before .before .before .before .before .before .before .before .before .before .before .before .before .before .before .before .args .machines)) (c .before .before .before .before .before .before .before .before .before .before .before .layout-of .result) short (c .before .before .before .before .before .before .before .before .before .before .before .before .before .before .before .before .before .pre .1) (c .before .before .before .before .before .before .before .before .before .before .before .before .before .before .before .before .before .pre .2) in let room = length-replicate {A = ℕ} 65536 0 in put-as (ap (decodeText 14) (first-put (replicate 65536 0) (bytesNow (now (c .before .before .before .before .before .before .before .before .before .before .before .before .before .before .before .before .before .args .s)) (now (c .before .before .before .before .before .before .before .before .before .before .before .before .before .before .before .before .before .args .tasks)) (now (c .before .before .before .before .before .before .before .before .before .before .before .before .before .before .before .before .before .args .machines)) (c .before .before .before .before .before .before .before .before .before .before .before .layout-of .result) short (c .before .before .before .before .before .before .before .before .before .before .before .before .before .before .before .before .before .pre .1) (c .before .before .before .before .before .before .before .before .before .before .before .before .before .before .before .before .before .pre .2)) (omega (arith, fits, room)) (c .before .before .before .before .before .before .renew .ensures .0) (c .before .before .before .before .before .before .renew .ensures .1) ∙ renewed-is (now (c .before .before .before .before .before .before .before .before .before .before .before .before .before .before .before .before .before .args .s)) (now (c .before .before .before .before .before .before .before .before .before .before .before .before .before .before .before .before .before .args .tasks)) (now (c .before .before .before .before .before .before .before .before .before .before .before .before .before .before .before .before .before .args .machines)) (c .before .before .before .before .before .before .before .before .before .before .before .layout-of .result) short (c .before .before .before .before .before .before .before .before .before .before .before .before .before .before .before .before .before .pre .1) (c .before .before .before .before .before .before .before .before .before .before .before .before .before .before .before .before .before .pre .2) (read-layout (now (c .before .before .before .before .before .before .before .before .before .before .before .before .before .before .before .before .before .args .s)) (c .before .before .before .before .before .before .before .before .before .before .before .before .before .before .before .before .before .pre .0) (c .before .before .before .before .before .before .before .before .before .before .before .before .read .ensures) (c .before .before .before .before .before .before .before .before .before .before .before .layout-of .ensures)))) (c .before .before .show-sheet .ensures)
+returns c = let short = read-short (now (c .before .before .before .before .before .before .before .before .before .before .before .before .before .before .before .before .before .args .s)) (c .before .before .before .before .before .before .before .before .before .before .before .before .before .before .before .before .before .pre .0) (c .before .before .before .before .before .before .before .before .before .before .before .before .read .ensures) (c .before .before .before .before .before .before .before .before .before .before .before .layout-of .ensures) in let fits = renewed-fits (now (c .before .before .before .before .before .before .before .before .before .before .before .before .before .before .before .before .before .args .s)) (now (c .before .before .before .before .before .before .before .before .before .before .before .before .before .before .before .before .before .args .tasks)) (now (c .before .before .before .before .before .before .before .before .before .before .before .before .before .before .before .before .before .args .machines)) (c .before .before .before .before .before .before .before .before .before .before .before .layout-of .result) short (c .before .before .before .before .before .before .before .before .before .before .before .before .before .before .before .before .before .pre .1) (c .before .before .before .before .before .before .before .before .before .before .before .before .before .before .before .before .before .pre .2) in let room = length-replicate {A = ℕ} 65536 0 in short-as (ap (decodeText 14) (first-put (replicate 65536 0) (bytesNow (now (c .before .before .before .before .before .before .before .before .before .before .before .before .before .before .before .before .before .args .s)) (now (c .before .before .before .before .before .before .before .before .before .before .before .before .before .before .before .before .before .args .tasks)) (now (c .before .before .before .before .before .before .before .before .before .before .before .before .before .before .before .before .before .args .machines)) (c .before .before .before .before .before .before .before .before .before .before .before .layout-of .result) short (c .before .before .before .before .before .before .before .before .before .before .before .before .before .before .before .before .before .pre .1) (c .before .before .before .before .before .before .before .before .before .before .before .before .before .before .before .before .before .pre .2)) (omega (arith, fits, room)) (c .before .before .before .before .before .before .renew .ensures .0) (c .before .before .before .before .before .before .renew .ensures .1) ∙ renewed-is (now (c .before .before .before .before .before .before .before .before .before .before .before .before .before .before .before .before .before .args .s)) (now (c .before .before .before .before .before .before .before .before .before .before .before .before .before .before .before .before .before .args .tasks)) (now (c .before .before .before .before .before .before .before .before .before .before .before .before .before .before .before .before .before .args .machines)) (c .before .before .before .before .before .before .before .before .before .before .before .layout-of .result) short (c .before .before .before .before .before .before .before .before .before .before .before .before .before .before .before .before .before .pre .1) (c .before .before .before .before .before .before .before .before .before .before .before .before .before .before .before .before .before .pre .2) (read-layout (now (c .before .before .before .before .before .before .before .before .before .before .before .before .before .before .before .before .before .args .s)) (c .before .before .before .before .before .before .before .before .before .before .before .before .before .before .before .before .before .pre .0) (c .before .before .before .before .before .before .before .before .before .before .before .before .read .ensures) (c .before .before .before .before .before .before .before .before .before .before .before .layout-of .ensures)))) (c .before .before .show-sheet .ensures)
 
 pub show-renewed-spec : {M : Type 1} → statement M
 show-renewed-spec =

@@ -5,8 +5,7 @@ use denote.Ref.{now}
 use lib.ListN.{length}
 use Rattle.decode.specs.Decode.{betterPlacement}
 use Rattle.decoding.specs.Decoding.{decodedPlan}
-use Rattle.writing.proofs.WritingLaws.{put-as}
-use Rattle.terminal_text.proofs.ShownLaws.{refusal-shown, sheet-shown, sheet-room, decoded-columned}
+use Rattle.terminal_text.proofs.ShownLaws.{refusal-shown, sheet-shown, sheet-room, decoded-columned, short-as, refusal-short}
 use borrow.Author.Needs.{needs}
 use Rattle.terminal_text.proofs.show_sheet.Statement.{statement}
 use Rattle.terminal_text.proofs.show_sheet.Tie as tie
@@ -100,7 +99,7 @@ returns c =
     let s = now (at .args .s) in
     let o = decodedPlan betterPlacement s in
     let told = sym (c .before .before .before .before .before .answer .given .1) ∙ c .before .before .before .before .before .before .before .before .before .before .before .before .decode .ensures .0 in
-    put-as (refusal-shown (at .args .outcome) o told) (c .before .before .put-refusal .ensures)
+    refusal-short (refusal-shown (at .args .outcome) o told) (c .before .before .put-refusal .ensures)
 
 -- src/lib.rt:43:1
 same-length-2 : tie.Need-same-length-2
@@ -113,7 +112,7 @@ returns-2 c =
     let s = now (at .args .s) in
     let o = decodedPlan betterPlacement s in
     let told = sym (c .before .before .before .before .before .before .before .before .before .before .answer2 .given .1) ∙ c .before .before .before .before .before .before .before .before .before .before .before .before .before .before .before .before .before .decode .ensures .0 in
-    put-as (sheet-shown (at .args .outcome) o _ _ _ _ _ told (decoded-columned betterPlacement s) (c .before .before .before .before .before .before .before .before .before .before .before .before .before .before .before .before .before .decode .ensures .1)) (c .before .before .put-first .ensures)
+    short-as (sheet-shown (at .args .outcome) o _ _ _ _ _ told (decoded-columned betterPlacement s) (c .before .before .before .before .before .before .before .before .before .before .before .before .before .before .before .before .before .decode .ensures .1)) (c .before .before .put-first .ensures)
 
 pub show-sheet-spec : {M : Type 1} → statement M
 show-sheet-spec =
