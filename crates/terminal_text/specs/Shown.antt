@@ -6,7 +6,7 @@ use mathlib.Core.Bool.{cond}
 use mathlib.Core.List.{List}
 use lib.Dec.{leb}
 use lib.Ieee.{toBits, binary64}
-use lib.ListN.{length}
+use lib.ListN.{length, take}
 use Rattle.words.specs.Text.{written}
 use Rattle.writing.specs.Writing.{Put}
 use Rattle.calls.specs.Outcome.{Outcome, no, sheet}
