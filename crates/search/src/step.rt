@@ -59,15 +59,7 @@ pub fn best_move(
     ensures holding { λ r. ⌜ Holding (problemOf (words (now (s .entry))) z) (linesIn (now (cells .entry)) lens) r (now (taken .exit)) (now (begun .exit)) (now (done .exit)) ⌝ }
     ensures lines { λ _. ⌜ linesIn (now (cells .exit)) lens ≡ linesIn (now (cells .entry)) lens ⌝ }
 {
-    lines::link_lines(
-        z.activities,
-        cells,
-        lens,
-        before,
-        after,
-        machines,
-        places,
-    );
+    lines::link_lines(z.activities, cells, lens, before, after, machines, places);
     let moves = find_moves(
         s,
         z,

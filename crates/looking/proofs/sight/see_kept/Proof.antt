@@ -14,10 +14,10 @@ is-flexible-requires c κs = search needs
 
 find-moves-requires : tie.Need-find-moves-requires
 find-moves-requires c κs =
-    ((@pre .0 .0, @pre .0 .1, @pre .0 .2, @is-flexible .ensures (problemOf (words (now (@args .s))) (@args .z)) (@pre .0 .0 .tabled) refl (@pre .0 .0 .accepted .activities .1)), (@pre .1 .0, @pre .1 .1))
+    ((c .before .before .before .before .before .before .before .before .before .before .before .before .before .before .before .before .before .before .before .pre .0 .0, c .before .before .before .before .before .before .before .before .before .before .before .before .before .before .before .before .before .before .before .pre .0 .1, c .before .before .before .before .before .before .before .before .before .before .before .before .before .before .before .before .before .before .before .pre .0 .2, c .before .before .before .is-flexible .ensures (problemOf (words (now (c .before .before .before .before .before .before .before .before .before .before .before .before .before .before .before .before .before .before .before .args .s))) (c .before .before .before .before .before .before .before .before .before .before .before .before .before .before .before .before .before .before .before .args .z)) (c .before .before .before .before .before .before .before .before .before .before .before .before .before .before .before .before .before .before .before .pre .0 .0 .tabled) refl (c .before .before .before .before .before .before .before .before .before .before .before .before .before .before .before .before .before .before .before .pre .0 .0 .accepted .activities .1)), (c .before .before .before .before .before .before .before .before .before .before .before .before .before .before .before .before .before .before .before .pre .1 .0, c .before .before .before .before .before .before .before .before .before .before .before .before .before .before .before .before .before .before .before .pre .1 .1))
 
 write-kept-requires : tie.Need-write-kept-requires
-write-kept-requires c κs = (@find-moves .ensures .0 .1, @find-moves .ensures .1 .0 .1, @pre .1 .2, @pre .1 .3)
+write-kept-requires c κs = (c .before .before .before .before .before .before .before .before .before .before .find-moves .ensures .0 .1, c .before .before .before .before .before .before .before .before .before .before .find-moves .ensures .1 .0 .1, c .before .before .before .before .before .before .before .before .before .before .before .before .before .before .before .before .before .before .before .before .before .before .before .before .before .before .before .before .before .before .pre .1 .2, c .before .before .before .before .before .before .before .before .before .before .before .before .before .before .before .before .before .before .before .before .before .before .before .before .before .before .before .before .before .before .pre .1 .3)
 
 same-length : tie.Need-same-length
 same-length c = search needs
@@ -36,10 +36,10 @@ same-length-5 c = search needs
 
 returns : tie.Need-returns
 returns c =
-    let b = @find-moves .ensures .0 in
-    let o = @find-moves .ensures .1 .0 in (
-      (held-count (@find-moves .result .blocks) (b .1) (b .0), held-count (@find-moves .result .others) (o .1) (o .0)),
-      (kept-as (b .0) (o .0) (now (@args .kept)) (@write-kept .ensures .0), ranks-as (b .0) (o .0) (now (@args .ranks)) (@write-kept .ensures .1)),
+    let b = c .before .before .before .before .before .before .before .before .before .before .before .before .before .before .before .find-moves .ensures .0 in
+    let o = c .before .before .before .before .before .before .before .before .before .before .before .before .before .before .before .find-moves .ensures .1 .0 in (
+      (held-count (c .before .before .before .before .before .before .before .before .before .before .before .before .before .before .before .find-moves .result .blocks) (b .1) (b .0), held-count (c .before .before .before .before .before .before .before .before .before .before .before .before .before .before .before .find-moves .result .others) (o .1) (o .0)),
+      (kept-as (b .0) (o .0) (now (c .before .before .before .before .before .before .before .before .before .before .before .before .before .before .before .before .before .before .before .before .before .before .before .before .before .before .before .before .before .before .before .before .before .before .before .args .kept)) (c .before .before .before .before .write-kept .ensures .0), ranks-as (b .0) (o .0) (now (c .before .before .before .before .before .before .before .before .before .before .before .before .before .before .before .before .before .before .before .before .before .before .before .before .before .before .before .before .before .before .before .before .before .before .before .args .ranks)) (c .before .before .before .before .write-kept .ensures .1)),
     )
 
 pub see-kept-spec : {M : Type 1} → statement M
