@@ -1,7 +1,8 @@
 -- Document 01, "Plans to hold on the card board": the program improves a plan and prints `decode`: the outcome, then the fitness and the rows of
 -- the sheet that is shown. At 14 that is the sheet of the plan with the new order and machines, at 10 to 13 of the plan as it is. A refusal is
 -- one line.
-use Prim.Native.Nat.{ℕ}
+use Prim.Native.Nat.{ℕ, _≤_}
+use mathlib.Core.Path.{_≡_}
 use mathlib.Core.Bool.{cond}
 use mathlib.Core.List.{List}
 use lib.Dec.{leb}
