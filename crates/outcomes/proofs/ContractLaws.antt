@@ -83,4 +83,4 @@ look-permitted κs a x e told = told
 
 pub show-permitted : Tells 2 show-kinds.ps show-kinds.r show-reads.Learnt λ κs a x e.
     Permitted (show (now (a .0)) (now (a .1 .0))) (ended x (now (e .1 .0)))
-show-permitted κs a x e told = told
+show-permitted κs a x e told = (told .0, told .1 .0)
