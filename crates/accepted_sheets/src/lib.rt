@@ -1,1 +1,2 @@
 // No code: what is proved of the decoders' sheets and the sheet check together.
+#![tactic(auto)]

@@ -1,4 +1,6 @@
 // The active decoder: scan the tasks for candidates, and place the one that ranks first where the first to finish would run.
+#![tactic(auto)]
+
 mod choosing;
 mod placing;
 mod scanning;
@@ -8,7 +10,7 @@ use board::Seat;
 pub use placing::place_active;
 
 // The seat that is taken next.
-#[derive(Drop)]
+#[derive(Clone, Copy)]
 pub enum Choice {
     Nothing,
     Sits(Seat),

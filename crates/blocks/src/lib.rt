@@ -1,4 +1,6 @@
 // Blocks of the critical path: their moves, the estimate of each, and the three that are tried.
+#![tactic(auto)]
+
 mod offers;
 mod runs;
 mod stretch;

@@ -1,5 +1,7 @@
 // What both decoders place upon: who was placed last on each machine and of each task, when each placed activity starts and ends, and who is
 // settled. Cells by activity are 0 until it is placed; the last placed are held as numbers, one that is no activity standing for none.
+#![tactic(auto)]
+
 ghost use Rattle.std.specs.Prelude.{◌≡◌, ℕ, ◌+◌, ◌^◌, ◌<◌, List, length, get_or, set, replicate};
 ghost use Rattle.words.specs.Words.{words};
 ghost use Rattle.graph.specs.Counting.{Below};
@@ -18,7 +20,7 @@ use graph::Link;
 use plan::{Layout, Machine};
 
 // An activity's place on its machine.
-#[derive(Drop)]
+#[derive(Clone, Copy)]
 pub struct Seat {
     pub activity: usize,
     pub machine: usize,

@@ -1,4 +1,6 @@
 // Module 1 of document 01: what timing, both decoders and the sheet check ask of one activity.
+#![tactic(auto)]
+
 ghost use Rattle.std.specs.Prelude.{◌≡◌, ℕ, ◌+◌, ◌*◌, ◌-◌, ◌<◌, ◌≤◌, ◌^◌, max, length, get_or};
 ghost use Rattle.std.proofs.Math.Option.{some};
 ghost use Rattle.words.specs.Words.{words};

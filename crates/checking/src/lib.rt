@@ -1,4 +1,6 @@
 // The public call of the sheet check. It tests its own input and asks nothing of its caller.
+#![tactic(auto)]
+
 ghost use Rattle.std.specs.Prelude.{◌≡◌};
 ghost use Rattle.checking.specs.Checking.{told, checked};
 
@@ -6,7 +8,7 @@ use sheet::Verdict;
 
 // A refusal's number and place; accepted; or bad: a rule's number, 1 to 9, and the first bad row, rows counted from 0; or, by rule 10, the
 // lowest activity without a row.
-#[derive(Drop)]
+#[derive(Clone, Copy)]
 pub enum Checked {
     Refused(u32, usize),
     Accepted,

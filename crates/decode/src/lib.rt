@@ -1,4 +1,6 @@
 // The sheet that is shown: the better of the two decoders'.
+#![tactic(auto)]
+
 ghost use Rattle.std.specs.Prelude.{◌≡◌, ◌≤◌, length};
 ghost use Rattle.words.specs.Words.{words};
 ghost use Rattle.plan.specs.Input.{problem_of, genes_of};
@@ -14,7 +16,7 @@ ghost use Rattle.decode.specs.Decode.{sheet_fitness, better_placement};
 use plan::Layout;
 
 // A decoder's sheet: how many are placed, and its fitness.
-#[derive(Drop)]
+#[derive(Clone, Copy)]
 struct Sheet {
     rows: usize,
     fitness: f64,

@@ -1,4 +1,6 @@
 // The public calls that write a decoder's sheet. Each tests its own input and asks nothing of its caller.
+#![tactic(auto)]
+
 mod placed;
 
 ghost use Rattle.std.specs.Prelude.{◌≡◌};
@@ -9,7 +11,7 @@ ghost use Rattle.decoding.specs.Rule.{rule_of};
 use calls::Answer;
 
 // How activities are placed: in order, actively, or as the better of these two sheets.
-#[derive(Drop)]
+#[derive(Clone, Copy)]
 enum Decoder {
     InOrder,
     Active,

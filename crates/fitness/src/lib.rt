@@ -1,4 +1,6 @@
 // How good a placing is: its makespan and its total tardiness, weighed against each other.
+#![tactic(auto)]
+
 mod last_steps;
 
 ghost use Rattle.std.specs.Prelude.{◌≡◌, ◌+◌, ◌≤◌, ◌^◌, length, get_or};
@@ -15,14 +17,14 @@ pub use last_steps::fitness_by_last_steps;
 use plan::Layout;
 
 // The makespan, and the sum of the tasks' tardinesses.
-#[derive(Drop)]
+#[derive(Clone, Copy)]
 pub struct Sums {
     pub makespan: u64,
     pub late: u64,
 }
 
 // Of a task: the word that says whether it has a deadline, the deadline's word, and how many steps it has.
-#[derive(Drop)]
+#[derive(Clone, Copy)]
 pub struct Row {
     pub dated: u32,
     pub deadline: u32,

@@ -1,4 +1,6 @@
 // What the genes give: the activities that the Order names, one after the other, and the machine of each.
+#![tactic(auto)]
+
 ghost use Rattle.std.specs.Prelude.{◌≡◌, ◌≤◌, ◌<◌, ◌^◌, length};
 ghost use Rattle.words.specs.Words.{words};
 ghost use Rattle.plan.specs.Input.{cell, problem_of, genes_of};
@@ -11,7 +13,7 @@ ghost use Rattle.genes.specs.Lot.{Lines};
 use plan::{Layout, Machine};
 
 // A word of the Order: a task, or a number that no task has.
-#[derive(Drop)]
+#[derive(Clone, Copy)]
 enum Naming {
     Task(usize),
     Unknown,
@@ -95,7 +97,7 @@ pub fn fill_machines(s: &[u8], z: Layout, machines: &mut [usize]) -> bool
 }
 
 // Whether the genes give lines of all activities; if so, how many activities stand on each machine.
-#[derive(Drop)]
+#[derive(Clone, Copy)]
 pub struct Lot {
     pub whole: bool,
     pub lens: [usize; 16],

@@ -1,5 +1,7 @@
 // The stored form's grammar as data: ten sections, each a row of what its count, its words and its entries have to keep.
 // Reading, and later writing, go over these rows; nothing else knows what a section holds.
+#![tactic(auto)]
+
 ghost use Rattle.std.specs.Prelude.{◌≡◌, cond, ◌+◌, ◌*◌, ◌-◌, ◌<◌, ◌≤◌, ◌^◌, length, get_or};
 ghost use Rattle.words.specs.Words.{words};
 ghost use Rattle.grammar.specs.Sections.{sections, no_section, kind_at};
@@ -9,7 +11,7 @@ ghost use Rattle.grammar.specs.declared.Rule.{Rule};
 ghost use Rattle.grammar.specs.declared.Rule.TheVariants.{RisingOnce};
 
 // The range of a word.
-#[derive(Drop)]
+#[derive(Clone, Copy)]
 pub enum Kind {
     Any,
     Span(u32, u32),
@@ -21,7 +23,7 @@ pub enum Kind {
 }
 
 // The rule about an entry, after those before it.
-#[derive(Drop)]
+#[derive(Clone, Copy)]
 pub enum Rule {
     Free,
     Rising,
@@ -30,7 +32,7 @@ pub enum Rule {
 }
 
 // The rule about a count.
-#[derive(Drop)]
+#[derive(Clone, Copy)]
 pub enum Check {
     None,
     Total,
@@ -39,7 +41,7 @@ pub enum Check {
 }
 
 // What a count is kept as.
-#[derive(Drop)]
+#[derive(Clone, Copy)]
 pub enum Keep {
     Nothing,
     Tasks,
@@ -48,7 +50,7 @@ pub enum Keep {
 }
 
 // A row of the grammar. A width of 0 stands for one word for each machine; a word past the fifth is of the fifth's kind.
-#[derive(Drop)]
+#[derive(Clone, Copy)]
 pub struct Section {
     pub low: u32,
     pub high: u32,
@@ -64,7 +66,7 @@ pub struct Section {
 }
 
 // The counts read so far, 0 before, and the sum of the tasks' activities.
-#[derive(Drop)]
+#[derive(Clone, Copy)]
 pub struct Known {
     pub tasks: u32,
     pub activities: u32,

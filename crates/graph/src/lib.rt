@@ -1,4 +1,6 @@
 // Whom an activity frees, the timing order by a stack, and the filing of those that name each.
+#![tactic(auto)]
+
 mod counting;
 mod filing;
 
@@ -11,7 +13,7 @@ pub use counting::{clear, count_arcs, tally_by, tally_links};
 pub use filing::file_naming;
 
 // One activity, or none.
-#[derive(Drop)]
+#[derive(Clone, Copy)]
 pub enum Link {
     To(usize),
     Nothing,

@@ -1,5 +1,7 @@
 // Small plans, ordered by the compiled code: how many activities the timing order names, then the
 // order.
+#![tactic(auto)]
+
 ghost use Rattle.std.specs.Prelude.{◌≤◌, length};
 ghost use Rattle.graph_shown.specs.Plan.{Plan};
 

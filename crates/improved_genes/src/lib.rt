@@ -1,1 +1,2 @@
 // No code: what is proved of what Improve answers and writes.
+#![tactic(auto)]

@@ -1,11 +1,13 @@
 // Improve: the steps of the search one after the other, from the lines of the order.
+#![tactic(auto)]
+
 mod call;
 mod found;
 
 pub use call::improve;
 
 // A refusal's number and place; or the outcomes 10 to 14, with the bits of the best line fitness where there is one.
-#[derive(Drop)]
+#[derive(Clone, Copy)]
 pub enum Answer {
     Refused(u32, usize),
     NoSteps,

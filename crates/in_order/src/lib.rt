@@ -1,4 +1,6 @@
 // The decoder that places in order: repeatedly the first activity that waits for none that is still to come.
+#![tactic(auto)]
+
 mod placing;
 mod ready;
 

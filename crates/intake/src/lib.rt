@@ -1,4 +1,6 @@
 // A plan taken in whole: read, its tables filled, and refused 4 where task order and predecessors close a circle.
+#![tactic(auto)]
+
 ghost use Rattle.std.specs.Prelude.{◌≡◌, length, replicate};
 ghost use Rattle.words.specs.Words.{words};
 ghost use Rattle.plan.specs.Input.{problem_of, genes_of};

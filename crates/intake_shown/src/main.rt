@@ -1,5 +1,7 @@
 // Takes in plans from standard input, one after the other, each after its length in bytes as a little-endian word, and writes a line
 // for each: what the terminal would show where it refuses it, else how many tasks, activities and machines it has.
+#![tactic(auto)]
+
 use reader::Answer;
 use stream::Next;
 

@@ -1,4 +1,6 @@
 // The calls for programs in C and Rust. A slice crosses as a pointer and a length, and an answer as numbers.
+#![tactic(auto)]
+
 mod checked;
 mod decoded;
 mod improved;

@@ -1,4 +1,6 @@
 // The lines of a workshop's machines: number 7's test, who stands before and after whom, and the lines that an order gives.
+#![tactic(auto)]
+
 mod dealing;
 mod linking;
 mod relinking;

@@ -1,4 +1,6 @@
 // One step of the search, shown: what it looks at on lines that the caller gives.
+#![tactic(auto)]
+
 mod call;
 mod kept;
 mod listing;
@@ -8,7 +10,7 @@ pub use call::look;
 
 // A refusal's number and place; or how many activities of the path, block moves, kept block moves and kept reassignments were written, and the
 // bits of the line fitness.
-#[derive(Drop)]
+#[derive(Clone, Copy)]
 pub enum Answer {
     Refused(u32, usize),
     Seen(usize, usize, usize, usize, u64),

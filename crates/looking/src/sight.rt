@@ -17,14 +17,14 @@ use crate::listing::list_moves;
 use plan::Layout;
 
 // How many activities the path has, and how many block moves.
-#[derive(Drop)]
+#[derive(Clone, Copy)]
 struct Walked {
     path: usize,
     moves: usize,
 }
 
 // How many block moves are kept, and how many reassignments.
-#[derive(Drop)]
+#[derive(Clone, Copy)]
 struct Held {
     blocks: usize,
     others: usize,

@@ -1,5 +1,7 @@
 // Moves of the search: what each does to the lines, how it is taken back, and the pair by which it is
 // forbidden for a while.
+#![tactic(auto)]
+
 mod line;
 mod relinking;
 
@@ -10,7 +12,7 @@ ghost use Rattle.moves.specs.Moves.{swap_at, shifted, line_of, left, joined, app
 pub use line::moved;
 pub use relinking::relink;
 
-#[derive(Drop)]
+#[derive(Clone, Copy)]
 pub enum Move {
     // Machine, position: with the next.
     Swap(usize, usize),
@@ -21,7 +23,7 @@ pub enum Move {
 }
 
 // Two numbers by which a move is forbidden.
-#[derive(Drop)]
+#[derive(Clone, Copy)]
 pub struct Pairing {
     pub first: usize,
     pub second: usize,

@@ -1,1 +1,2 @@
 // No code: what is proved of all public calls together.
+#![tactic(auto)]

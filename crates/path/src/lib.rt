@@ -1,4 +1,6 @@
 // What one search step finds out about timed lines: the critical path, and the tail behind each activity.
+#![tactic(auto)]
+
 mod following;
 
 ghost use Rattle.std.specs.Prelude.{◌≡◌, ℕ, ◌+◌, ◌^◌, ◌<◌, ◌≤◌, eqb, length, get_or, take, drop};

@@ -1,4 +1,6 @@
 // What an accepted plan says, looked up in the stored words. Each answer is the function of the same name of `Problem` in specs/.
+#![tactic(auto)]
+
 ghost use Rattle.std.specs.Prelude.{◌≡◌, ℕ, ◌+◌, ◌*◌, ◌-◌, ◌<◌, ◌≤◌, ◌^◌, length, get_or};
 ghost use Rattle.std.proofs.Math.Option.{Option};
 ghost use Rattle.words.specs.Words.{words};
@@ -8,7 +10,7 @@ ghost use Rattle.plan.specs.Found.{Placed, Weighed, layout_of, due_of, machine_o
 use reader::Reading;
 
 // Where each section's count stands, as a word number.
-#[derive(Drop)]
+#[derive(Clone, Copy)]
 pub struct Starts {
     pub tasks: usize,
     pub activities: usize,
@@ -23,7 +25,7 @@ pub struct Starts {
 }
 
 // How many tasks, activities and machines there are, and where the sections stand.
-#[derive(Drop)]
+#[derive(Clone, Copy)]
 pub struct Layout {
     pub tasks: usize,
     pub activities: usize,
@@ -32,20 +34,20 @@ pub struct Layout {
 }
 
 // An activity's three times on a machine.
-#[derive(Drop)]
+#[derive(Clone, Copy)]
 pub struct Times {
     pub setup: u32,
     pub process: u32,
     pub teardown: u32,
 }
 
-#[derive(Drop)]
+#[derive(Clone, Copy)]
 pub enum Due {
     At(i32),
     Never,
 }
 
-#[derive(Drop)]
+#[derive(Clone, Copy)]
 pub enum Machine {
     On(usize),
     Nothing,

@@ -1,4 +1,6 @@
 // What the program prints, as text in a line that the caller lends. Each function answers the place after what it put.
+#![tactic(auto)]
+
 ghost use Rattle.std.specs.Prelude.{◌≡◌, [], ◌∷◌, ◌++◌, ◌+◌, ◌*◌, ◌≤◌, length};
 ghost use Rattle.words.specs.Digits.{hex16};
 ghost use Rattle.writing.specs.Writing.{Put};

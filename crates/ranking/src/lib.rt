@@ -1,5 +1,7 @@
 // The best three of the moves that a search step looks at. Moves are offered one after the other, so that
 // no list of them is held or sorted.
+#![tactic(auto)]
+
 ghost use Rattle.std.specs.Prelude.{◌≡◌, [], ◌≤◌, ◌<◌, min, suc, get_or};
 ghost use Rattle.ranking.specs.declared.Rated.{Rated};
 ghost use Rattle.ranking.specs.Ranking.{ranked, with_one, goes_at, enters};
@@ -7,7 +9,7 @@ ghost use Rattle.ranking.specs.Ranking.{ranked, with_one, goes_at, enters};
 use moves::Move;
 
 // A move with its rank: the length of the longest way that it leaves, and the time by which equal lengths go.
-#[derive(Drop)]
+#[derive(Clone, Copy)]
 pub struct Rated {
     pub length: u64,
     pub time: u64,
@@ -15,7 +17,7 @@ pub struct Rated {
 }
 
 // At most three, the best first. What stands past the count is not held.
-#[derive(Drop)]
+#[derive(Clone, Copy)]
 pub struct Three {
     pub count: usize,
     pub first: Rated,

@@ -1,4 +1,6 @@
 // Reads the stored form in place, by the rows of the grammar. It writes nothing, so a refusal leaves nothing behind.
+#![tactic(auto)]
+
 ghost use Rattle.std.specs.Prelude.{◌≡◌, ◌+◌, ◌*◌, ◌-◌, ◌<◌, ◌≤◌, ◌^◌, length, get_or};
 ghost use Rattle.words.specs.Words.{words};
 ghost use Rattle.grammar.specs.Rules.{width_of};
@@ -7,20 +9,20 @@ ghost use Rattle.reader.specs.Reading.{read_word, read_fields, read_entries, rea
 use grammar::{Kind, Known, Section};
 
 // Where reading goes on, as a word number; or the refusal's number and its place, as a byte number.
-#[derive(Drop)]
+#[derive(Clone, Copy)]
 pub enum Onward {
     Next(usize),
     Refused(u32, usize),
 }
 
-#[derive(Drop)]
+#[derive(Clone, Copy)]
 pub enum Answer {
     Accepted,
     No(u32, usize),
 }
 
 // The answer with the counts and the place of each section's count, as word numbers; zeros beside a refusal.
-#[derive(Drop)]
+#[derive(Clone, Copy)]
 pub struct Reading {
     pub answer: Answer,
     pub known: Known,

@@ -1,4 +1,6 @@
 // Moves of the path's activities to other machines that they may run on.
+#![tactic(auto)]
+
 mod position;
 
 ghost use Rattle.std.specs.Prelude.{◌≡◌, List, [], ◌∷◌, ℕ, ◌≤◌, ◌<◌, ◌^◌, length, get_or};
@@ -21,7 +23,7 @@ use plan::Layout;
 use ranking::{Rated, Three};
 
 // How long the work is before an activity, of it, and behind it, its line apart.
-#[derive(Drop)]
+#[derive(Clone, Copy)]
 pub struct Way {
     pub head: u64,
     pub time: u64,
@@ -29,21 +31,21 @@ pub struct Way {
 }
 
 // A position with its length.
-#[derive(Drop)]
+#[derive(Clone, Copy)]
 pub struct Spot {
     pub length: u64,
     pub place: usize,
 }
 
 // Where an activity may go on a line: its best position, if there is any.
-#[derive(Drop)]
+#[derive(Clone, Copy)]
 pub enum Room {
     At(Spot),
     Nowhere,
 }
 
 // An activity that leaves its machine and its position there, and how long the work is before it and behind it, its line apart.
-#[derive(Drop)]
+#[derive(Clone, Copy)]
 pub struct Leaving {
     pub activity: usize,
     pub machine: usize,

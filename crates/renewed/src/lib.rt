@@ -1,4 +1,6 @@
 // A plan's stored bytes with another Order and Assignment. They are the last two sections, so all before them stays as it is.
+#![tactic(auto)]
+
 ghost use Rattle.std.specs.Prelude.{◌+◌, ◌*◌, ◌≤◌, ◌≡◌, length};
 ghost use Rattle.words.specs.Text.{written};
 ghost use Rattle.words.specs.Words.{bytes_of};

@@ -1,5 +1,7 @@
 // Takes plans from standard input, one after the other, each after its length in bytes as a little-endian word, and prints for each what the
 // terminal shows for it.
+#![tactic(auto)]
+
 ghost use Rattle.replayed.specs.Replayed.{Replayed};
 
 use stream::Next;

@@ -1,4 +1,6 @@
 // A sheet's rows, written into five lent buffers: activity, machine, start, end, setup.
+#![tactic(auto)]
+
 ghost use Rattle.std.specs.Prelude.{◌≡◌, ◌≤◌, length};
 ghost use Rattle.graph.specs.Counting.{Below};
 ghost use Rattle.rows.specs.Rows.{gathered, over, columns_of, Written, Roomy};

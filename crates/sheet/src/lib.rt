@@ -1,4 +1,6 @@
 // The sheet check: whether rows of activity, machine, start and end keep all the rules, and where the first that does not stands.
+#![tactic(auto)]
+
 mod rows;
 mod rules;
 
@@ -14,14 +16,14 @@ ghost use Rattle.sheet.specs.Sheet.{check_sheet};
 use plan::Layout;
 
 // What a row speaks of: an activity on a machine, both known, or something unknown.
-#[derive(Drop)]
+#[derive(Clone, Copy)]
 pub enum Subject {
     Known(usize, usize),
     Unknown,
 }
 
 // Accepted; or bad: a rule's number, 1 to 9, and the first bad row, rows counted from 0; or, by rule 10, the lowest activity without a row.
-#[derive(Drop)]
+#[derive(Clone, Copy)]
 pub enum Verdict {
     Accepted,
     Bad(usize, usize),

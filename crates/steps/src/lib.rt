@@ -1,4 +1,6 @@
 // The steps of the search, one after the other.
+#![tactic(auto)]
+
 mod step;
 mod steps;
 

@@ -1,7 +1,9 @@
 // Plans from standard input, one after the other, each after its length in bytes as a little-endian word.
+#![tactic(auto)]
+
 ghost use Rattle.stream.specs.Stream.{Lies};
 
-#[derive(Drop)]
+#[derive(Clone, Copy)]
 pub enum Next {
     Ended,
     Plan(usize),

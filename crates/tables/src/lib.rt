@@ -1,4 +1,6 @@
 // What the search looks up often, worked out once for each call and laid in one slice.
+#![tactic(auto)]
+
 mod changes;
 mod lists;
 mod lookups;
@@ -28,14 +30,14 @@ pub use lookups::{
 use plan::Layout;
 
 // The setup of a change from one category to another where an entry gives it, else the activity's own.
-#[derive(Drop)]
+#[derive(Clone, Copy)]
 pub enum Change {
     To(u64),
     Own,
 }
 
 // A task, and the number after its last activity.
-#[derive(Drop)]
+#[derive(Clone, Copy)]
 struct Place {
     task: usize,
     end: usize,

@@ -3,6 +3,8 @@
 // No accepted plan has more than 65,204 bytes, so that the buffer is never full of one. Of a longer input the buffer holds the first 65,536
 // bytes. Its ten sections end within 65,204 bytes, or a word or a rule before that place refuses it; so the refusal of what was read, 5 at
 // the latest, is the refusal of the whole.
+#![tactic(auto)]
+
 fn main() {
     let mut space = io::large_buffer();
     let plan: &mut [u8] = &mut space;

@@ -1,4 +1,6 @@
 // What the terminal shows for an input.
+#![tactic(auto)]
+
 ghost use Rattle.std.specs.Prelude.{◌≤◌, ◌≡◌, length, take};
 ghost use Rattle.reader.specs.declared.Answer.TheVariants.{Accepted};
 ghost use Rattle.plan.specs.Found.{layout_of};

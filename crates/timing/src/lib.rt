@@ -1,4 +1,6 @@
 // The timing order and the starts of a problem's lines.
+#![tactic(auto)]
+
 mod placing;
 
 ghost use Rattle.std.specs.Prelude.{◌≡◌, ℕ, ◌^◌, ◌≤◌, ◌<◌, length, get_or, take, true, not};

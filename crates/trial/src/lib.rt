@@ -1,4 +1,6 @@
 // The moves of a search step, tried one after the other: each is timed and weighed, and the strictly least counts, the first among equals.
+#![tactic(auto)]
+
 mod forbid;
 
 ghost use Rattle.std.specs.Prelude.{◌≡◌, true, false, not, ◌<◌, length, get_or};
@@ -25,7 +27,7 @@ use plan::Layout;
 use ranking::Three;
 
 // Two numbers that are listed until a step.
-#[derive(Drop)]
+#[derive(Clone, Copy)]
 pub struct Taboo {
     pub first: usize,
     pub second: usize,
@@ -33,14 +35,14 @@ pub struct Taboo {
 }
 
 // Nothing yet, or a fitness with its move.
-#[derive(Drop)]
+#[derive(Clone, Copy)]
 pub enum Best {
     Nothing,
     Found(f64, Move),
 }
 
 // Where the search is.
-#[derive(Drop)]
+#[derive(Clone, Copy)]
 pub struct Search {
     pub step: usize,
 }

@@ -1,5 +1,7 @@
 // Stored bytes as words, words as signed numbers, and numbers as text: what the reader, the writer and the printed
 // lines are made of. No function asks anything of its caller.
+#![tactic(auto)]
+
 mod signed;
 mod stored;
 mod text;

@@ -1,5 +1,7 @@
 // Prints words and numbers at their ends. The file stdout beside src/ was written by hand, from what little-endian words,
 // two's complement and the digits of a number are.
+#![tactic(auto)]
+
 ghost use Rattle.std.specs.Prelude.{◌≡◌, nat_abs};
 
 fn main() {

@@ -1,4 +1,6 @@
 // A text put whole into a line that the caller lends, and the place after it answered.
+#![tactic(auto)]
+
 ghost use Rattle.std.specs.Prelude.{◌+◌, ◌≤◌, length};
 ghost use Rattle.writing.specs.Writing.{Put};
 
