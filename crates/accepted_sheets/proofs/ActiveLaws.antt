@@ -5,7 +5,7 @@ use mathlib.Core.Bool.{Bool, true, false, not}
 use mathlib.Core.List.{List, [], ◌∷◌}
 use native.Mathlib.Omega.{arith}
 use native.Mathlib.Numerals.{add-one}
-use borrow.Author.Tests.{eqb-true, eqb-false, not_true, not_false}
+use borrow.Author.Tests.{eqb-true, eqb-false, not-true, not-false}
 use lib.ListN.{get_or, set}
 use lib.Seq.{get_or-set_other}
 use Rattle.graph.specs.Counting.{count_of}
@@ -32,7 +32,7 @@ unfolding any_unsettled count_of
 all_settled settled [] q e h = absurd (omega arith)
 all_settled settled (b ∷ l) q e h =
     let o = or_false (not (settled_in settled b)) (any_unsettled settled l) e in
-    either b q (λ y. subst (λ (x : ℕ). get_or settled x 0 ≡ 1) y (eqb-true (get_or settled b 0) 1 (not_false (settled_in settled b) o.0)))
+    either b q (λ y. subst (λ (x : ℕ). get_or settled x 0 ≡ 1) y (eqb-true (get_or settled b 0) 1 (not-false (settled_in settled b) o.0)))
     (λ ne. all_settled settled l q o.1 (omega (arith, h, hit-ne b q ne)))
 
 one_all : (P : ℕ → Type 0) (waits : Bool) (a : ℕ) → (waits ≡ false → P a) → All P (candidate_unless waits a)
@@ -62,7 +62,7 @@ module _ {p : Problem} {g : Genes} (ok : Accepted p g) where
     stop_scanned : (t a bound : ℕ) (s : Scan) → stops_at g s.settled a ≡ true → a < bound → a < p.n → p.task_of a ≡ t → Passed t a s → Scanned a s → Scanned bound (stop_at p a s)
     stop_scanned t a bound s e h here own passed w =
         let waits = any_unsettled s.settled (p.predecessors a) in
-        let ne = eqb-false (get_or s.settled a 0) 1 (not_true (settled_in s.settled a) (and_true (not (settled_in s.settled a)) (is_assigned (g.assigned a)) e).0) in
+        let ne = eqb-false (get_or s.settled a 0) 1 (not-true (settled_in s.settled a) (and_true (not (settled_in s.settled a)) (is_assigned (g.assigned a)) e).0) in
         record {
           orderly = w.orderly;
           next =

@@ -7,7 +7,7 @@ use mathlib.Core.Logic.{inl}
 use mathlib.Core.Option
 use mathlib.Core.Option.{Option, none, some}
 use native.Mathlib.Omega.{arith}
-use borrow.Author.Tests.{eq-eqb, not_true}
+use borrow.Author.Tests.{eq-eqb, not-true}
 use lib.ListN.{length, get_or, set, replicate, length-set}
 use lib.Seq.{get_or-set_same, get_or-set_other}
 use Rattle.graph.specs.Counting.{count_of, hit, Below}
@@ -83,7 +83,7 @@ module _ {p : Problem} {g : Genes} (ok : Accepted p g) where
     ready_next {pending} {b} s a e =
         let f = first_is p pending activities a e in
         let here = below_of p.n a activities known f.0 in
-        let r = not_true (any_pending pending (p.predecessors a) || earlier_pending p pending a) (and_true (is_pending pending a) (is_ready p pending a) f.1).1 in
+        let r = not-true (any_pending pending (p.predecessors a) || earlier_pending p pending a) (and_true (is_pending pending a) (is_ready p pending a) f.1).1 in
         let o = or_false (any_pending pending (p.predecessors a)) (earlier_pending p pending a) r in
         record {
           here = here;

@@ -6,7 +6,7 @@ use mathlib.Core.Bool.{Bool, true, false, not, ◌&&◌}
 use mathlib.Core.List.{List, [], ◌∷◌}
 use mathlib.Core.Logic.{⊎_elim}
 use native.Mathlib.Omega.{arith}
-use borrow.Author.Tests.{eq-eqb, eqb-true, eqb-false, ne_eqb, not_true}
+use borrow.Author.Tests.{eq-eqb, eqb-true, eqb-false, ne_eqb, not-true}
 use lib.ListN.{length, get_or, set, length-append}
 use lib.Seq.{get_or-set_other, set-get_or}
 use Rattle.graph.specs.Counting.{count_of, hit, sum_to}
@@ -93,7 +93,7 @@ unfolding any_unsettled count_of
 unsettled_one settled [] e = let z : ◌≡◌ {A = ℕ} 0 1 = cc in absurd (omega arith)
 unsettled_one settled (b ∷ l) e =
     let deeper = unsettled_one settled l in
-    ⊎_elim (λ x. (b, omega (arith, hit-eq b b refl), eqb-false (get_or settled b 0) 1 (not_true (settled_in settled b) x)))
+    ⊎_elim (λ x. (b, omega (arith, hit-eq b b refl), eqb-false (get_or settled b 0) 1 (not-true (settled_in settled b) x)))
     (λ y. let w = deeper y in (w.0, omega (arith, w.1), w.2)) (or_true (not (settled_in settled b)) (any_unsettled settled l) e)
 
 module _ {p : Problem} {g : Genes} (ok : Accepted p g) (manned : (a : ℕ) → a < p.n → is_assigned (g.assigned a) ≡ true) where

@@ -1,0 +1,20 @@
+-- `blocks::stretch::tail_of` meets its contract.
+use Prim.Native.Nat.{◌+◌, ◌-◌}
+use mathlib.Core.Path.{ap, ◌∙◌}
+use lib.ListN.{get_or}
+use native.Mathlib.Omega.{arith}
+use Rattle.graph.specs.Links.{linked}
+use Rattle.graph.specs.Shop.{greatest}
+use Rattle.graph.specs.declared.Link.{Link}
+use Rattle.path.proofs.NeighbourLaws.{succ_below}
+use Rattle.blocks.proofs.stretch.tail_of.Goals as goal
+
+pub next_of-requires : goal.next_of-requires
+next_of-requires c = (omega (arith, c.requires.0.held.known, c.requires.0.held.few), c.requires.0.held.tabled.sized)
+
+pub later_rest-requires : goal.later_rest-requires
+later_rest-requires c = (rw (c.next_of.ensures c.requires.0.held.problem c.requires.0.held.tabled c.requires.0.ended c.requires.0.held.known, c.requires.0.ended) (succ_below c.requires.0.held.problem c.args.x), c.requires.1)
+
+pub returns : goal.returns
+returns c = λ p t h k.
+    c.later_rest.ensures ∙ ap (λ (l : Link). greatest (λ b. get_or c.args.ends.now b 0 - get_or c.args.starts.now b 0 + get_or c.args.tail.now b 0) (linked l) c.args.next) (c.next_of.ensures p t k h)

@@ -1,0 +1,76 @@
+-- `fitness::sums_of` meets its contract. The loop's invariant: of the tasks passed, `makespan` is the latest completion and `late` the sum of the
+-- tardinesses, and `first` is the next task's first activity.
+use Prim.Native.Nat.{◌+◌, ◌-◌, ◌≤◌, ◌^◌}
+use mathlib.Core.Path.{◌≡◌, refl, sym, ap, ◌∙◌}
+use native.Mathlib.Omega.{arith}
+use lib.ListN.{get_or}
+use Rattle.words.specs.Words.{words}
+use Rattle.plan.specs.Input.{problem_of}
+use Rattle.fitness.specs.Fitness.{latest, sum_to, completion_of, lateness}
+use Rattle.fitness.specs.Ended.{latest_end}
+use Rattle.fitness.proofs.LatestLaws.{latest_next, sum_next}
+use Rattle.fitness.proofs.TaskLaws.{task_within, completion_is, lateness_is, sums_are, completion_below, lateness_below, late_below, sums_exact}
+use Rattle.fitness.proofs.sums_of.Goals as goal
+
+-- A task's completion in a turn, and its tardiness.
+done-is : (c : goal.After-completion-done)
+    → c.completion-done.result ≡ completion_of (problem_of (words c.args.s.now) c.args.z) (λ a. get_or c.args.ends.now a 0) c.loop-t.t
+done-is c =
+    completion_is (problem_of (words c.args.s.now) c.args.z) (λ a. get_or c.args.ends.now a 0) c.loop-t.t c.loop-t.first
+    c.steps-steps.result c.completion-done.result c.completion-done.ensures c.loop-t.invariant.1 c.steps-steps.ensures
+
+done_below : (c : goal.After-completion-done) → c.completion-done.result ≤ latest_end
+done_below c =
+    rw (done-is c) (completion_below (words c.args.s.now) c.args.z c.requires.placed.1 c.args.ends.now c.requires.ended c.loop-t.t c.loop-t-test.true)
+
+late_is : (c : goal.After-tardiness-late)
+    → c.tardiness-late.result ≡ lateness (problem_of (words c.args.s.now) c.args.z) (λ a. get_or c.args.ends.now a 0) c.loop-t.t
+late_is c =
+    lateness_is (problem_of (words c.args.s.now) c.args.z) (λ a. get_or c.args.ends.now a 0) c.loop-t.t
+    c.completion-done.result c.tardiness-late.result c.tardiness-late.ensures c.deadline-due.ensures (done-is c)
+
+late-fits : (c : goal.After-tardiness-late) → c.loop-t.late + c.tardiness-late.result ≤ 2 ^ 53
+late-fits c =
+    let w = words c.args.s.now in
+    let e = late_is c in
+    let i = lateness_below w c.args.z c.requires.placed.1 c.args.ends.now c.requires.ended c.loop-t.t c.loop-t-test.true in
+    let h = late_below w c.args.z c.requires.placed.1 c.args.ends.now c.requires.ended c.loop-t.t c.loop-t.invariant.0 in
+    omega (arith, c.loop-t.invariant.3, c.requires.placed.0.tasks)
+
+pub loop-t-init : goal.loop-t-init
+unfolding latest sum_to
+loop-t-init c = (omega arith, sym c.requires.placed.1.starting, refl, refl)
+
+pub steps-steps-requires : goal.steps-steps-requires
+steps-steps-requires c = (c.requires.placed.0, omega (arith, c.requires.placed.0.tasks))
+
+pub completion-done-requires : goal.completion-done-requires
+completion-done-requires c = omega (arith, task_within c.requires.placed.1 c.loop-t.t c.loop-t-test.true, c.steps-steps.ensures, c.loop-t.invariant.1, c.requires.ended.each)
+
+pub deadline-due-requires : goal.deadline-due-requires
+deadline-due-requires c = (c.requires.placed.0, omega (arith, c.requires.placed.0.tasks, c.loop-t.invariant.0))
+
+pub tardiness-late-requires : goal.tardiness-late-requires
+tardiness-late-requires c = omega (arith, done_below c)
+
+pub overflow_add-late : goal.overflow_add-late
+overflow_add-late c = omega (arith, late-fits c)
+
+pub overflow_add-first : goal.overflow_add-first
+overflow_add-first c = omega (arith, task_within c.requires.placed.1 c.loop-t.t c.loop-t-test.true, c.steps-steps.ensures, c.loop-t.invariant.1, c.requires.placed.0.activities)
+
+pub loop-t-preserved : goal.loop-t-preserved
+loop-t-preserved c = (
+      omega (arith, c.loop-t-test.true),
+      omega (arith, c.requires.placed.1.next_first c.loop-t.t, c.loop-t.invariant.1, c.steps-steps.ensures),
+      latest_next _ c.loop-t.invariant.2 (done-is c) c.later-makespan.ensures,
+      sum_next _ c.loop-t.invariant.3 (late_is c),
+    )
+
+pub returns : goal.returns
+returns c = let w = words c.args.s.now in
+    let e : c.loop-t.t ≡ c.args.z.tasks = omega arith in
+    let m = c.loop-t.invariant.2 ∙ ap (latest _ 0) e in
+    let n = c.loop-t.invariant.3 ∙ ap (sum_to _) e in
+    let x = sums_exact w c.args.z c.requires.placed.1 c.args.ends.now c.requires.ended in
+    (sums_are (problem_of w c.args.z) (λ a. get_or c.args.ends.now a 0) m n, omega arith, omega arith)

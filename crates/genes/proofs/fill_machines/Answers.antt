@@ -1,0 +1,24 @@
+-- `genes::fill_machines` meets its contract. The loop's invariant: the cells of the activities passed are filled, and `all` says whether each has
+-- a machine. Assumes nothing.
+use Rattle.genes.proofs.MachineLaws.{fill_begin, fill_on, fill_without, fill_end}
+use native.Mathlib.Omega.{arith}
+use mathlib.Core.Path.{sym, ◌∙◌}
+use Prim.Native.Nat.{◌-◌}
+use Rattle.genes.proofs.fill_machines.Goals as goal
+
+pub loop-a-init : goal.loop-a-init
+loop-a-init c = fill_begin _ _ _
+
+pub loop-a-preserved-in_default : goal.loop-a-preserved-in_default
+loop-a-preserved-in_default c = fill_without c.loop-a.invariant _ (cc) c.loop-a-test.true
+    (sym c.in_default.is ∙ c.assigned.ensures)
+
+pub loop-a-preserved : goal.loop-a-preserved
+loop-a-preserved c = fill_on c.loop-a.invariant c.in-On.m _ (omega arith) c.loop-a-test.true
+    (sym c.in-On.is ∙ c.assigned.ensures)
+
+pub shape_of-machines : goal.shape_of-machines
+shape_of-machines c = c.loop-a.invariant.sized
+
+pub returns : goal.returns
+returns c = fill_end c.loop-a.invariant c.loop-a-test.false

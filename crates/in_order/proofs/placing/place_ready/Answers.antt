@@ -1,0 +1,193 @@
+-- `in_order::placing::place_ready` meets its contract. The loop's invariant: placing the rest upon the board so far gives what placing all does.
+use Prim.Native.Nat.{ℕ, ◌-◌, ◌<◌}
+use mathlib.Core.Path.{refl, sym, ap, ◌∙◌}
+use mathlib.Core.List.{List}
+use native.Mathlib.Omega.{arith}
+use lib.ListN.{get_or}
+use Rattle.words.specs.Words.{words}
+use Rattle.plan.specs.Input.{problem_of, genes_of}
+use Rattle.genes.specs.Indexed.{assigned_to}
+use Rattle.genes.proofs.MachineLaws.{assigned_known}
+use Rattle.board.specs.Board.{board_of}
+use Rattle.board.proofs.SeatLaws.{with_machine, last_below}
+use Rattle.board.proofs.BoardLaws.{from_known}
+use Rattle.in_order.proofs.OneLaws.{way_is, coming_next, placed_sound}
+use Rattle.in_order.proofs.SeatingLaws.{seat_begin, seat_end, seat-listed, here, unsettled, has_room, few, settled_next, placed_next}
+use Rattle.in_order.proofs.placing.place_ready.Goals as goal
+
+pub loop-i-init : goal.loop-i-init
+loop-i-init c = let p = problem_of (words c.args.s.now) c.args.z in
+    let g = genes_of (words c.args.s.now) c.args.z in
+    seat_begin p g c.requires.upon
+
+pub assigned-requires : goal.assigned-requires
+assigned-requires c = let p = problem_of (words c.args.s.now) c.args.z in
+    let g = genes_of (words c.args.s.now) c.args.z in
+    let a = get_or c.args.ready.now c.loop-i.i 0 in
+    let known = here c.loop-i.invariant c.loop-i-test.true in
+    (c.requires.placed.0, omega (arith, known, c.requires.placed.1.activities.1))
+
+pub settle-requires : goal.settle-requires
+settle-requires c = let p = problem_of (words c.args.s.now) c.args.z in
+    let g = genes_of (words c.args.s.now) c.args.z in
+    let a = get_or c.args.ready.now c.loop-i.i 0 in
+    let known = here c.loop-i.invariant c.loop-i-test.true in
+    omega (arith, known, c.loop-i.invariant.sound.sized.settled)
+
+pub loop-i-preserved-in_default : goal.loop-i-preserved-in_default
+loop-i-preserved-in_default c = let p = problem_of (words c.args.s.now) c.args.z in
+    let g = genes_of (words c.args.s.now) c.args.z in
+    let a = get_or c.args.ready.now c.loop-i.i 0 in
+    let known = here c.loop-i.invariant c.loop-i-test.true in
+    settled_next c.loop-i.invariant c.loop-i-test.true (sym c.in_default.is ∙ c.assigned.ensures) (ap (λ (x : List ℕ). board_of c.loop-i.count c.loop-i.order c.loop-i.starts c.loop-i.ends c.loop-i.setups c.loop-i.lines c.loop-i.steps x) c.settle.ensures)
+
+pub step_of-step-requires : goal.step_of-step-requires
+step_of-step-requires c = let p = problem_of (words c.args.s.now) c.args.z in
+    let g = genes_of (words c.args.s.now) c.args.z in
+    let a = get_or c.args.ready.now c.loop-i.i 0 in
+    let known = here c.loop-i.invariant c.loop-i-test.true in
+    record { problem = p; tabled = c.requires.placed.2; few = c.requires.placed.1.activities.1; here = known; owned = omega (arith, c.requires.placed.1.owner a known, c.requires.placed.1.tasks.1, c.loop-i.invariant.sound.sized.steps) }
+
+pub machine_from-from-requires : goal.machine_from-from-requires
+machine_from-from-requires c = let p = problem_of (words c.args.s.now) c.args.z in
+    let g = genes_of (words c.args.s.now) c.args.z in
+    let a = get_or c.args.ready.now c.loop-i.i 0 in
+    let known = here c.loop-i.invariant c.loop-i-test.true in
+    let es = c.step_of-step.ensures p c.requires.placed.2 known in
+    (c.requires.placed.0, rw es (last_below p.n c.loop-i.steps (p.task_of a)))
+
+pub offset_bounds-ways-from : goal.offset_bounds-ways-from
+offset_bounds-ways-from c = let p = problem_of (words c.args.s.now) c.args.z in
+    let g = genes_of (words c.args.s.now) c.args.z in
+    let a = get_or c.args.ready.now c.loop-i.i 0 in
+    let known = here c.loop-i.invariant c.loop-i-test.true in
+    let es = c.step_of-step.ensures p c.requires.placed.2 known in
+    let em = sym c.in-On.is ∙ c.assigned.ensures in
+    let there = c.requires.placed.1.assigned a c.in-On.m (with_machine (g.assigned a) c.in-On.m em) in
+    let from : c.machine_from-from.result < p.machines = rw c.machine_from-from.ensures (from_known p g c.requires.placed.1 (assigned_to g) (λ q k. assigned_known c.requires.placed.1 q) c.loop-i.invariant.sound (p.task_of a) es) in
+    omega (arith, from, there, c.requires.placed.1.machines.1)
+
+pub offset_bounds-ways-m : goal.offset_bounds-ways-m
+offset_bounds-ways-m c = let p = problem_of (words c.args.s.now) c.args.z in
+    let g = genes_of (words c.args.s.now) c.args.z in
+    let a = get_or c.args.ready.now c.loop-i.i 0 in
+    let known = here c.loop-i.invariant c.loop-i-test.true in
+    let es = c.step_of-step.ensures p c.requires.placed.2 known in
+    let em = sym c.in-On.is ∙ c.assigned.ensures in
+    let there = c.requires.placed.1.assigned a c.in-On.m (with_machine (g.assigned a) c.in-On.m em) in
+    let from : c.machine_from-from.result < p.machines = rw c.machine_from-from.ensures (from_known p g c.requires.placed.1 (assigned_to g) (λ q k. assigned_known c.requires.placed.1 q) c.loop-i.invariant.sound (p.task_of a) es) in
+    omega (arith, from, there, c.requires.placed.1.machines.1)
+
+pub bounds-ways-from : goal.bounds-ways-from
+bounds-ways-from c = let p = problem_of (words c.args.s.now) c.args.z in
+    let g = genes_of (words c.args.s.now) c.args.z in
+    let a = get_or c.args.ready.now c.loop-i.i 0 in
+    let known = here c.loop-i.invariant c.loop-i-test.true in
+    let es = c.step_of-step.ensures p c.requires.placed.2 known in
+    let em = sym c.in-On.is ∙ c.assigned.ensures in
+    let there = c.requires.placed.1.assigned a c.in-On.m (with_machine (g.assigned a) c.in-On.m em) in
+    let from : c.machine_from-from.result < p.machines = rw c.machine_from-from.ensures (from_known p g c.requires.placed.1 (assigned_to g) (λ q k. assigned_known c.requires.placed.1 q) c.loop-i.invariant.sound (p.task_of a) es) in
+    omega (arith, from, there, c.requires.placed.1.machines.1)
+
+pub bounds-ways-m : goal.bounds-ways-m
+bounds-ways-m c = let p = problem_of (words c.args.s.now) c.args.z in
+    let g = genes_of (words c.args.s.now) c.args.z in
+    let a = get_or c.args.ready.now c.loop-i.i 0 in
+    let known = here c.loop-i.invariant c.loop-i-test.true in
+    let es = c.step_of-step.ensures p c.requires.placed.2 known in
+    let em = sym c.in-On.is ∙ c.assigned.ensures in
+    let there = c.requires.placed.1.assigned a c.in-On.m (with_machine (g.assigned a) c.in-On.m em) in
+    let from : c.machine_from-from.result < p.machines = rw c.machine_from-from.ensures (from_known p g c.requires.placed.1 (assigned_to g) (λ q k. assigned_known c.requires.placed.1 q) c.loop-i.invariant.sound (p.task_of a) es) in
+    omega (arith, from, there, c.requires.placed.1.machines.1)
+
+pub overflow_cast-way : goal.overflow_cast-way
+overflow_cast-way c = let p = problem_of (words c.args.s.now) c.args.z in
+    let g = genes_of (words c.args.s.now) c.args.z in
+    let a = get_or c.args.ready.now c.loop-i.i 0 in
+    let known = here c.loop-i.invariant c.loop-i-test.true in
+    let es = c.step_of-step.ensures p c.requires.placed.2 known in
+    let em = sym c.in-On.is ∙ c.assigned.ensures in
+    let there = c.requires.placed.1.assigned a c.in-On.m (with_machine (g.assigned a) c.in-On.m em) in
+    let from : c.machine_from-from.result < p.machines = rw c.machine_from-from.ensures (from_known p g c.requires.placed.1 (assigned_to g) (λ q k. assigned_known c.requires.placed.1 q) c.loop-i.invariant.sound (p.task_of a) es) in
+    let ew = way_is p g c.requires.placed.1 c.requires.placed.3 c.machine_from-from.result c.in-On.m from there in
+    let back = way_is p g c.requires.placed.1 c.requires.placed.3 c.in-On.m c.machine_from-from.result there from in
+    omega (arith, ew, c.requires.placed.1.transport c.machine_from-from.result c.in-On.m from there, back, c.requires.placed.1.transport c.in-On.m c.machine_from-from.result there from)
+
+pub place_one-requires : goal.place_one-requires
+place_one-requires c = let p = problem_of (words c.args.s.now) c.args.z in
+    let g = genes_of (words c.args.s.now) c.args.z in
+    let a = get_or c.args.ready.now c.loop-i.i 0 in
+    let known = here c.loop-i.invariant c.loop-i-test.true in
+    let es = c.step_of-step.ensures p c.requires.placed.2 known in
+    let em = sym c.in-On.is ∙ c.assigned.ensures in
+    let there = c.requires.placed.1.assigned a c.in-On.m (with_machine (g.assigned a) c.in-On.m em) in
+    let from : c.machine_from-from.result < p.machines = rw c.machine_from-from.ensures (from_known p g c.requires.placed.1 (assigned_to g) (λ q k. assigned_known c.requires.placed.1 q) c.loop-i.invariant.sound (p.task_of a) es) in
+    let ew = way_is p g c.requires.placed.1 c.requires.placed.3 c.machine_from-from.result c.in-On.m from there in
+    let coming = coming_next p g c.loop-i.invariant.sound known there (unsettled c.loop-i.invariant c.loop-i-test.true) es c.machine_from-from.ensures ew in
+    record { placed = (c.requires.placed.0, c.requires.placed.1, c.requires.placed.2); coming = (coming, has_room c.loop-i.invariant c.loop-i-test.true); }
+
+pub overflow_add-count : goal.overflow_add-count
+overflow_add-count c = let p = problem_of (words c.args.s.now) c.args.z in
+    let g = genes_of (words c.args.s.now) c.args.z in
+    let a = get_or c.args.ready.now c.loop-i.i 0 in
+    let known = here c.loop-i.invariant c.loop-i-test.true in
+    omega (arith, few c.loop-i.invariant c.loop-i-test.true refl, c.requires.placed.1.activities.1)
+
+pub loop-i-smaller : goal.loop-i-smaller
+loop-i-smaller c = let p = problem_of (words c.args.s.now) c.args.z in
+    let g = genes_of (words c.args.s.now) c.args.z in
+    let a = get_or c.args.ready.now c.loop-i.i 0 in
+    let known = here c.loop-i.invariant c.loop-i-test.true in
+    omega (arith, c.loop-i-test.true)
+
+pub loop-i-preserved : goal.loop-i-preserved
+loop-i-preserved c = let p = problem_of (words c.args.s.now) c.args.z in
+    let g = genes_of (words c.args.s.now) c.args.z in
+    let a = get_or c.args.ready.now c.loop-i.i 0 in
+    let known = here c.loop-i.invariant c.loop-i-test.true in
+    let es = c.step_of-step.ensures p c.requires.placed.2 known in
+    let em = sym c.in-On.is ∙ c.assigned.ensures in
+    let there = c.requires.placed.1.assigned a c.in-On.m (with_machine (g.assigned a) c.in-On.m em) in
+    let from : c.machine_from-from.result < p.machines = rw c.machine_from-from.ensures (from_known p g c.requires.placed.1 (assigned_to g) (λ q k. assigned_known c.requires.placed.1 q) c.loop-i.invariant.sound (p.task_of a) es) in
+    let ew = way_is p g c.requires.placed.1 c.requires.placed.3 c.machine_from-from.result c.in-On.m from there in
+    let coming = coming_next p g c.loop-i.invariant.sound known there (unsettled c.loop-i.invariant c.loop-i-test.true) es c.machine_from-from.ensures ew in
+    placed_next c.loop-i.invariant c.loop-i-test.true c.in-On.m em c.place_one.ensures.board (placed_sound p g c.requires.placed.1 coming) c.place_one.ensures.order
+
+pub shape_of-order : goal.shape_of-order
+shape_of-order c = let p = problem_of (words c.args.s.now) c.args.z in
+    let g = genes_of (words c.args.s.now) c.args.z in
+    omega (arith, c.loop-i.invariant.sized)
+
+pub shape_of-starts : goal.shape_of-starts
+shape_of-starts c = let p = problem_of (words c.args.s.now) c.args.z in
+    let g = genes_of (words c.args.s.now) c.args.z in
+    omega (arith, c.loop-i.invariant.sound.sized.starts, (seat_begin p g c.requires.upon).sound.sized.starts)
+
+pub shape_of-ends : goal.shape_of-ends
+shape_of-ends c = let p = problem_of (words c.args.s.now) c.args.z in
+    let g = genes_of (words c.args.s.now) c.args.z in
+    omega (arith, c.loop-i.invariant.sound.sized.ends, (seat_begin p g c.requires.upon).sound.sized.ends)
+
+pub shape_of-setups : goal.shape_of-setups
+shape_of-setups c = let p = problem_of (words c.args.s.now) c.args.z in
+    let g = genes_of (words c.args.s.now) c.args.z in
+    omega (arith, c.loop-i.invariant.sound.sized.setups, (seat_begin p g c.requires.upon).sound.sized.setups)
+
+pub shape_of-lines : goal.shape_of-lines
+shape_of-lines c = let p = problem_of (words c.args.s.now) c.args.z in
+    let g = genes_of (words c.args.s.now) c.args.z in
+    omega (arith, c.loop-i.invariant.sound.sized.lines, (seat_begin p g c.requires.upon).sound.sized.lines)
+
+pub shape_of-steps : goal.shape_of-steps
+shape_of-steps c = let p = problem_of (words c.args.s.now) c.args.z in
+    let g = genes_of (words c.args.s.now) c.args.z in
+    omega (arith, c.loop-i.invariant.sound.sized.steps, (seat_begin p g c.requires.upon).sound.sized.steps)
+
+pub shape_of-settled : goal.shape_of-settled
+shape_of-settled c = let p = problem_of (words c.args.s.now) c.args.z in
+    let g = genes_of (words c.args.s.now) c.args.z in
+    omega (arith, c.loop-i.invariant.sound.sized.settled, (seat_begin p g c.requires.upon).sound.sized.settled)
+
+pub returns : goal.returns
+returns c = let e = seat_end c.loop-i.invariant c.loop-i-test.false in
+    record { board = e; order = seat-listed c.loop-i.invariant e refl; }

@@ -1,0 +1,6 @@
+use mathlib.Core.Path.{ap, ◌∙◌}
+use Rattle.library.specs.Code.{improve_code}
+use Rattle.library.proofs.improved.lavkkesto_improve.Goals as goal
+
+pub returns : goal.returns
+returns c = (c.improve_code.ensures ∙ ap improve_code c.improve-a.ensures.answer, (c.improve-a.ensures.tasks.0, c.improve-a.ensures.tasks.1))

@@ -1,0 +1,35 @@
+-- `looking::call::look_lines` meets its contract.
+use mathlib.Core.Path.{sym}
+use native.Mathlib.Omega.{arith}
+use Rattle.calls.proofs.PrefixLaws.{lent}
+use Rattle.looking.proofs.call.look_lines.Goals as goal
+
+pub slice_bounds-look_in-end : goal.slice_bounds-look_in-end
+slice_bounds-look_in-end c = sym (lent c.args.z.activities c.requires.taken.0.accepted.activities.1)
+
+pub slice_bounds-look_in-end-2 : goal.slice_bounds-look_in-end-2
+slice_bounds-look_in-end-2 c = sym (lent c.args.z.activities c.requires.taken.0.accepted.activities.1)
+
+pub slice_bounds-look_in-end-3 : goal.slice_bounds-look_in-end-3
+slice_bounds-look_in-end-3 c = sym (lent c.args.z.activities c.requires.taken.0.accepted.activities.1)
+
+pub slice_bounds-look_in-end-4 : goal.slice_bounds-look_in-end-4
+slice_bounds-look_in-end-4 c = sym (lent c.args.z.activities c.requires.taken.0.accepted.activities.1)
+
+pub slice_bounds-look_in-end-5 : goal.slice_bounds-look_in-end-5
+slice_bounds-look_in-end-5 c = sym (lent c.args.z.activities c.requires.taken.0.accepted.activities.1)
+
+pub slice_bounds-look_in-end-6 : goal.slice_bounds-look_in-end-6
+slice_bounds-look_in-end-6 c = sym (lent c.args.z.activities c.requires.taken.0.accepted.activities.1)
+
+pub slice_bounds-look_in-end-7 : goal.slice_bounds-look_in-end-7
+slice_bounds-look_in-end-7 c = sym (lent c.args.z.activities c.requires.taken.0.accepted.activities.1)
+
+pub slice_bounds-look_in-end-8 : goal.slice_bounds-look_in-end-8
+slice_bounds-look_in-end-8 c = sym (lent c.args.z.activities c.requires.taken.0.accepted.activities.1)
+
+pub slice_bounds-look_in-end-9 : goal.slice_bounds-look_in-end-9
+slice_bounds-look_in-end-9 c = sym (lent c.args.z.activities c.requires.taken.0.accepted.activities.1)
+
+pub look_in-requires : goal.look_in-requires
+look_in-requires c = (c.requires.taken, ((record { length_before = lent c.args.z.activities c.requires.taken.0.accepted.activities.1; length-after = lent c.args.z.activities c.requires.taken.0.accepted.activities.1; length-machines = lent c.args.z.activities c.requires.taken.0.accepted.activities.1; length-places = lent c.args.z.activities c.requires.taken.0.accepted.activities.1; length_order = lent c.args.z.activities c.requires.taken.0.accepted.activities.1; length_starts = lent c.args.z.activities c.requires.taken.0.accepted.activities.1; length-ends = lent c.args.z.activities c.requires.taken.0.accepted.activities.1 }, lent c.args.z.activities c.requires.taken.0.accepted.activities.1, lent c.args.z.activities c.requires.taken.0.accepted.activities.1, omega arith), c.requires.in_bounds))

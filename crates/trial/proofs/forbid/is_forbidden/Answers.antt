@@ -1,0 +1,22 @@
+-- `trial::forbid::is_forbidden` meets its contract, a case for each kind of move. Assumes nothing.
+use mathlib.Core.Path.{ap, ◌∙◌, subst}
+use Rattle.moves.specs.declared.Move.{Move}
+use Rattle.moves.specs.declared.Pairing.{Pairing}
+use Rattle.moves.specs.Moves.{Reads}
+use Rattle.trial.specs.Taboo.{either_way}
+use Rattle.trial.proofs.forbid.is_forbidden.Goals as goal
+
+pub pair-requires : goal.pair-requires
+pair-requires c = (c.requires.0, subst (λ (x : Move). Reads x) c.in-Swap.is c.requires.1)
+
+pub pair-requires-in-Shift : goal.pair-requires-in-Shift
+pair-requires-in-Shift c = (c.requires.0, subst (λ (x : Move). Reads x) c.in-Shift.is c.requires.1)
+
+pub returns-in-Swap : goal.returns-in-Swap
+returns-in-Swap c = rw c.in-Swap.is (c.either_way.ensures ∙ ap (λ (x : Pairing). either_way c.args.step c.args.pairs x) c.pair.ensures)
+
+pub returns-in-Shift : goal.returns-in-Shift
+returns-in-Shift c = rw c.in-Shift.is (c.either_way-in-Shift.ensures ∙ ap (λ (x : Pairing). either_way c.args.step c.args.pairs x) c.pair-in-Shift.ensures)
+
+pub returns-in-Reassign : goal.returns-in-Reassign
+returns-in-Reassign c = rw c.in-Reassign.is c.listed.ensures

@@ -1,0 +1,52 @@
+-- `words::text::put_decimal` meets its contract. The loop's invariant: the digits of `rest`, put from `at` up to `i`, would complete the line.
+use Prim.Native.Nat.{◌+◌, ◌-◌, ◌≤◌, ◌<◌}
+use mathlib.Core.Path.{refl, sym, ◌∙◌}
+use native.Mathlib.Omega.{arith}
+use borrow.Author.Tests.{leb-true, leb-false, not-true, not-false}
+use lib.ListN.{length, length-set}
+use Rattle.words.specs.Digits.{decimal}
+use Rattle.words.proofs.TextLaws.{written-fits, written_full, place_after-fits, place_after_full}
+use Rattle.words.proofs.DigitLaws.{digits_ahead, digit_put, digits_put, length-decimal}
+use Rattle.words.proofs.text.put_decimal.Goals as goal
+
+-- What the test of the room tells.
+full : (c : goal.Then-not-has_room) → length c.args.line.now
+    < c.args.at + length (decimal c.args.v)
+full c =
+    let h : length c.args.line.now < c.args.at + c.decimal_places-n.result = leb-false _ _ (sym c.has_room.ensures ∙ not-true _ c.if-not-has_room.true) in
+    omega (arith, c.decimal_places-n.ensures, length-decimal c.args.v)
+
+roomy : (c : goal.Else-not-has_room) → c.args.at + c.decimal_places-n.result
+    ≤ length c.args.line.now
+roomy c = leb-true _ _ (sym c.has_room.ensures ∙ not-false _ c.if-not-has_room.false)
+
+pub returns-then-not-has_room : goal.returns-then-not-has_room
+returns-then-not-has_room c = record { line = sym (written_full _ _ _ (full c)); place = sym (place_after_full _ _ _ (full c)); }
+
+pub overflow_add-end : goal.overflow_add-end
+overflow_add-end c = let h = roomy c in omega arith
+
+pub loop-i-init : goal.loop-i-init
+loop-i-init c = (omega arith, omega arith, refl, digits_ahead 10 c.args.line.now c.args.at c.decimal_places-n.result c.args.v (omega arith))
+
+pub bounds-line-i : goal.bounds-line-i
+bounds-line-i c = let h = roomy c in omega arith
+
+pub loop-i-preserved : goal.loop-i-preserved
+loop-i-preserved c = (
+      omega arith,
+      omega arith,
+      length-set c.loop-i.line (c.loop-i.i - 1) c.last_decimal.result ∙ c.loop-i.invariant.2,
+      rw c.last_decimal.ensures (digit_put 10 c.loop-i.line c.args.at c.loop-i.i c.loop-i.rest c.loop-i-test.true ∙ c.loop-i.invariant.3),
+    )
+
+pub shape_of-line : goal.shape_of-line
+shape_of-line c = c.loop-i.invariant.2
+
+pub returns : goal.returns
+unfolding decimal
+returns c = let h = roomy c in
+    let fits : c.args.at + length (decimal c.args.v) ≤ length c.args.line.now = omega (arith, c.decimal_places-n.ensures, length-decimal c.args.v) in
+    record { line = sym (digits_put 10 c.loop-i.line c.args.at c.loop-i.i c.loop-i.rest c.loop-i-test.false)
+          ∙ c.loop-i.invariant.3
+          ∙ rw c.decimal_places-n.ensures (sym (written-fits c.args.line.now c.args.at (decimal c.args.v) fits)); place = rw (place_after-fits c.args.line.now c.args.at (decimal c.args.v) fits, length-decimal c.args.v, c.decimal_places-n.ensures); }
