@@ -30,7 +30,7 @@ pub returns-in-8 : goal.returns-in-8
 returns-in-8 c = rw c.in-8.is
 
 pub returns-in_default : goal.returns-in_default
-returns-in_default c = let a = three_up 0 (search rules) c.in_default.rest.0.0.0.0.0.0.0.0.1 c.in_default.rest.0.0.0.0.0.0.0.1 c.in_default.rest.0.0.0.0.0.0.1 in
-    let b = three_up 3 a c.in_default.rest.0.0.0.0.0.1 c.in_default.rest.0.0.0.0.1 c.in_default.rest.0.0.0.1 in
-    let d = three_up 6 b c.in_default.rest.0.0.1 c.in_default.rest.0.1 c.in_default.rest.1 in
+returns-in_default c = let a = three_up 0 (search rules) c.in_default.in_default-own.rest.0.0.0.0.0.0.0.0.1 c.in_default.in_default-own.rest.0.0.0.0.0.0.0.1 c.in_default.in_default-own.rest.0.0.0.0.0.0.1 in
+    let b = three_up 3 a c.in_default.in_default-own.rest.0.0.0.0.0.1 c.in_default.in_default-own.rest.0.0.0.0.1 c.in_default.in_default-own.rest.0.0.0.1 in
+    let d = three_up 6 b c.in_default.in_default-own.rest.0.0.1 c.in_default.in_default-own.rest.0.1 c.in_default.in_default-own.rest.1 in
     rw (last_of_lem 9 d c.requires)

@@ -2,7 +2,6 @@
 use mathlib.Core.Path.{◌≡◌, sym, ap, ◌∙◌}
 use mathlib.Core.Bool.{Bool, ◌&&◌}
 use borrow.Author.Rules.{rules}
-use borrow.Author.Tests.{not-true, not-false}
 use Rattle.lines.specs.Lines.{all_zero}
 use native.Mathlib.Omega.{arith}
 use Prim.Native.Nat.{◌-◌}
@@ -11,10 +10,10 @@ use lib.Seq.{take_all}
 use Rattle.lines.proofs.all_fit.Goals as goal
 
 pub returns-then-not-all_short : goal.returns-then-not-all_short
-returns-then-not-all_short c = sym (ap (λ (t : Bool). t && all_zero (drop c.args.machines c.args.t1)) (sym c.all_short.ensures ∙ not-true c.all_short.result c.if-not-all_short.true))
+returns-then-not-all_short c = sym (ap (λ (t : Bool). t && all_zero (drop c.args.machines c.args.lens)) (sym c.all_short.ensures ∙ c.if-not-all_short.true))
 
 pub returns : goal.returns
-returns c = let k : length c.args.t1 ≡ 16 = search rules in
+returns c = let k : length c.args.lens ≡ 16 = search rules in
     c.all_zero.ensures
-    ∙ ap all_zero (take_all (16 - c.args.machines) (drop c.args.machines c.args.t1) (omega (arith, length-drop c.args.machines c.args.t1)))
-    ∙ sym (ap (λ (t : Bool). t && all_zero (drop c.args.machines c.args.t1)) (sym c.all_short.ensures ∙ not-false c.all_short.result c.if-not-all_short.false))
+    ∙ ap all_zero (take_all (16 - c.args.machines) (drop c.args.machines c.args.lens) (omega (arith, length-drop c.args.machines c.args.lens)))
+    ∙ sym (ap (λ (t : Bool). t && all_zero (drop c.args.machines c.args.lens)) (sym c.all_short.ensures ∙ c.if-not-all_short.false))

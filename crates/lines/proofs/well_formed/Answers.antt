@@ -3,7 +3,6 @@ use mathlib.Core.Path.{sym, ap, ◌∙◌}
 use Prim.Native.Nat.{ℕ}
 use mathlib.Core.List.{List}
 use native.Mathlib.Omega.{arith}
-use borrow.Author.Tests.{not-true, not-false}
 use lib.ListN.{length, get_or}
 use lib.Seq.{length-take-le}
 use Rattle.graph.proofs.NamingLaws.{zeros_at}
@@ -11,26 +10,26 @@ use Rattle.lines.proofs.CountLaws.{unfit, fit_of, unknown, decided}
 use Rattle.lines.proofs.well_formed.Goals as goal
 
 pub returns-then-not-all_fit : goal.returns-then-not-all_fit
-returns-then-not-all_fit c = unfit c.args.n c.args.machines c.args.cells.now c.args.lens (sym c.all_fit.ensures ∙ not-true c.all_fit.result c.if-not-all_fit.true)
+returns-then-not-all_fit c = unfit c.args.n c.args.machines c.args.cells.now c.args.lens (sym c.all_fit.ensures ∙ c.if-not-all_fit.true)
 
 pub count_lines-requires : goal.count_lines-requires
 count_lines-requires c = (
       omega (arith, c.clear.auto.list, c.requires.0),
       c.requires.2,
-      fit_of c.args.n c.args.machines c.args.cells.now c.args.lens (sym c.all_fit.ensures ∙ not-false c.all_fit.result c.if-not-all_fit.false),
+      fit_of c.args.n c.args.machines c.args.cells.now c.args.lens (sym c.all_fit.ensures ∙ c.if-not-all_fit.false),
       λ a. ap (λ (l : List ℕ). get_or l a 0) c.clear.ensures ∙ zeros_at (length c.args.seen.now) a,
     )
 
 pub returns-then-not-count_lines : goal.returns-then-not-count_lines
-returns-then-not-count_lines c = unknown c.args.n c.args.machines c.args.cells.now c.args.lens (sym c.all_fit.ensures ∙ not-false c.all_fit.result c.if-not-all_fit.false)
-    (sym c.count_lines.ensures.told ∙ not-true c.count_lines.result c.if-not-count_lines.true)
+returns-then-not-count_lines c = unknown c.args.n c.args.machines c.args.cells.now c.args.lens (sym c.all_fit.ensures ∙ c.if-not-all_fit.false)
+    (sym c.count_lines.ensures.told ∙ c.if-not-count_lines.true)
 
 pub slice_bounds-all_one-end-2 : goal.slice_bounds-all_one-end-2
 slice_bounds-all_one-end-2 c = sym (length-take-le c.args.n _ (omega (arith, c.count_lines.auto.seen, c.clear.auto.list, c.requires.0)))
 
 pub returns : goal.returns
-returns c = let y = not-false c.count_lines.result c.if-not-count_lines.false in
+returns c = let y = c.if-not-count_lines.false in
     c.all_one.ensures
-    ∙ decided c.args.n c.args.machines c.args.cells.now c.args.lens (sym c.all_fit.ensures ∙ not-false c.all_fit.result c.if-not-all_fit.false)
+    ∙ decided c.args.n c.args.machines c.args.cells.now c.args.lens (sym c.all_fit.ensures ∙ c.if-not-all_fit.false)
     (sym c.count_lines.ensures.told ∙ y) _
     (omega (arith, c.count_lines.auto.seen, c.clear.auto.list, c.requires.0)) (c.count_lines.ensures.counted y)

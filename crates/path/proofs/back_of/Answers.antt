@@ -23,18 +23,18 @@ no_way ends start l =
 
 -- Both links name activities that have an end, whichever is asked first.
 pub meeting-requires : goal.meeting-requires
-meeting-requires c = let line : Below (length c.args.ends.now) (linked c.link_of-line.result) = rw (c.link_of-line.ensures, ← c.requires.a_in_bounds.1) (link_below c.args.now c.args.a) in
+meeting-requires c = let line : Below (length c.args.ends.now) (linked c.link_of-line.result) = rw (c.link_of-line.ensures, ← c.requires.a_in_bounds.1) (link_below c.args.before.now c.args.a) in
     search rules
 
 pub back_by_plan-requires : goal.back_by_plan-requires
-back_by_plan-requires c = let line : Below (length c.args.ends.now) (linked c.link_of-line.result) = rw (c.link_of-line.ensures, ← c.requires.a_in_bounds.1) (link_below c.args.now c.args.a) in
+back_by_plan-requires c = let line : Below (length c.args.ends.now) (linked c.link_of-line.result) = rw (c.link_of-line.ensures, ← c.requires.a_in_bounds.1) (link_below c.args.before.now c.args.a) in
     search rules
 
 pub returns-in_default : goal.returns-in_default
 returns-in_default c = let start = get_or c.args.starts.now c.args.a 0 in
     let there : ℕ → Bool = λ b. eqb (get_or c.args.ends.now b 0) start in
     λ p t h f.
-    second (meeting there (link_of c.args.now c.args.a))
+    second (meeting there (link_of c.args.before.now c.args.a))
     (ap (meeting there) (sym c.link_of-line.ensures) ∙ no_way c.args.ends.now start c.link_of-line.result ∙ sym c.meeting.ensures ∙ c.in_default.is)
     (c.back_by_plan.ensures p t h f)
 
@@ -43,5 +43,5 @@ returns c = let start = get_or c.args.starts.now c.args.a 0 in
     let there : ℕ → Bool = λ b. eqb (get_or c.args.ends.now b 0) start in
     let late : ℕ → Bool = λ b. eqb (get_or c.args.ends.now b 0 + c.args.way) start in
     λ p t h f.
-    first_to (meeting there (link_of c.args.now c.args.a)) (or_else (meeting late c.args.task) (first_meeting there (p.predecessors c.args.a))) c.in-To.b
+    first_to (meeting there (link_of c.args.before.now c.args.a)) (or_else (meeting late c.args.task) (first_meeting there (p.predecessors c.args.a))) c.in-To.b
     (ap (meeting there) (sym c.link_of-line.ensures) ∙ no_way c.args.ends.now start c.link_of-line.result ∙ sym c.meeting.ensures ∙ c.in-To.is)

@@ -18,14 +18,14 @@ pub slice_bounds-link_line-end : goal.slice_bounds-link_line-end
 slice_bounds-link_line-end c = let f = c.requires.1 c.loop-m.m in omega arith
 
 pub link_line-requires : goal.link_line-requires
-link_line-requires c = let k : length c.args.t3 ≡ 16 = search rules in
+link_line-requires c = let k : length c.args.lens ≡ 16 = search rules in
     let f = c.requires.1 c.loop-m.m in
-    link_asks c.loop-m.invariant k c.loop-m-test.true (part_cells c.args.cells.now (128 * c.loop-m.m) (get_or c.args.t3 c.loop-m.m 0) _ refl (omega arith)) c.requires.3
+    link_asks c.loop-m.invariant k c.loop-m-test.true (part_cells c.args.cells.now (128 * c.loop-m.m) (get_or c.args.lens c.loop-m.m 0) _ refl (omega arith)) c.requires.3
 
 pub loop-m-preserved : goal.loop-m-preserved
-loop-m-preserved c = let k : length c.args.t3 ≡ 16 = search rules in
+loop-m-preserved c = let k : length c.args.lens ≡ 16 = search rules in
     let f = c.requires.1 c.loop-m.m in
-    link_again c.loop-m.invariant k c.loop-m-test.true (part_cells c.args.cells.now (128 * c.loop-m.m) (get_or c.args.t3 c.loop-m.m 0) _ refl (omega arith)) c.link_line.ensures
+    link_again c.loop-m.invariant k c.loop-m-test.true (part_cells c.args.cells.now (128 * c.loop-m.m) (get_or c.args.lens c.loop-m.m 0) _ refl (omega arith)) c.link_line.ensures
 
 pub shape_of-before : goal.shape_of-before
 shape_of-before c = c.loop-m.invariant.sized_before
@@ -40,5 +40,5 @@ pub shape_of-places : goal.shape_of-places
 shape_of-places c = c.loop-m.invariant.sized_places
 
 pub returns : goal.returns
-returns c = let k : length c.args.t3 ≡ 16 = search rules in
+returns c = let k : length c.args.lens ≡ 16 = search rules in
     link_end c.loop-m.invariant k c.loop-m-test.false

@@ -36,7 +36,7 @@ offset_bounds-before-a c = let b = below_at _ c.args.line.now c.loop-i.i c.requi
 
 pub bounds-before-a : goal.bounds-before-a
 bounds-before-a c = let b = below_at _ c.args.line.now c.loop-i.i c.requires.0 c.loop-i-test.true in
-    omega (arith, c.loop-i.invariant.sized_before, length-set c.args.now (get_or c.args.line.now 0 0) c.args.n)
+    omega (arith, c.loop-i.invariant.sized_before, length-set c.args.before.now (get_or c.args.line.now 0 0) c.args.n)
 
 pub offset_bounds-after-previous : goal.offset_bounds-after-previous
 offset_bounds-after-previous c = omega (arith, c.loop-i.invariant.known)
@@ -68,7 +68,7 @@ pub bounds-after-previous-2 : goal.bounds-after-previous-2
 bounds-after-previous-2 c = omega (arith, c.loop-i.invariant.known, c.loop-i.invariant.sized_after)
 
 pub shape_of-before : goal.shape_of-before
-shape_of-before c = c.loop-i.invariant.sized_before ∙ length-set c.args.now (get_or c.args.line.now 0 0) c.args.n
+shape_of-before c = c.loop-i.invariant.sized_before ∙ length-set c.args.before.now (get_or c.args.line.now 0 0) c.args.n
 
 pub shape_of-after : goal.shape_of-after
 shape_of-after c = length-set c.loop-i.after c.loop-i.previous c.args.n ∙ c.loop-i.invariant.sized_after

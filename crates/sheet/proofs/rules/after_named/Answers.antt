@@ -3,7 +3,6 @@ use native.Mathlib.Omega.{arith}
 use mathlib.Core.Path.{refl, sym, ◌∙◌}
 use Prim.Native.Nat.{◌<◌, ◌-◌}
 use lib.ListN.{get_or}
-use borrow.Author.Tests.{not-true, not-false}
 use Rattle.graph.proofs.CountingLaws.{below_at}
 use Rattle.sheet.specs.Sheet.{ends_by}
 use Rattle.sheet.proofs.RuleLaws.{asked, refused, goes_on}
@@ -26,10 +25,10 @@ pub ends_by-requires : goal.ends_by-requires
 ends_by-requires c = (c.requires.0, c.requires.2 (get_or c.args.named.now c.loop-k.k 0) (bound c))
 
 pub returns-then-not-ends_by : goal.returns-then-not-ends_by
-returns-then-not-ends_by c = refused c.loop-k.invariant c.loop-k-test.true (sym c.ends_by.ensures ∙ not-true c.ends_by.result c.if-not-ends_by.true)
+returns-then-not-ends_by c = refused c.loop-k.invariant c.loop-k-test.true (sym c.ends_by.ensures ∙ c.if-not-ends_by.true)
 
 pub loop-k-preserved : goal.loop-k-preserved
-loop-k-preserved c = goes_on c.loop-k.invariant c.loop-k-test.true (sym c.ends_by.ensures ∙ not-false c.ends_by.result c.if-not-ends_by.false)
+loop-k-preserved c = goes_on c.loop-k.invariant c.loop-k-test.true (sym c.ends_by.ensures ∙ c.if-not-ends_by.false)
 
 pub returns : goal.returns
 returns c = asked c.loop-k.invariant c.loop-k-test.false

@@ -2,7 +2,6 @@ use native.Mathlib.Omega.{arith}
 use mathlib.Core.Path.{◌≡◌, sym, ap, ◌∙◌}
 use Prim.Native.Nat.{ℕ}
 use lib.ListN.{get_or}
-use borrow.Author.Tests.{not-true, not-false}
 use Rattle.words.specs.Words.{words}
 use Rattle.graph.proofs.CountingLaws.{below_more}
 use Rattle.plan.specs.Input.{problem_of}
@@ -17,19 +16,19 @@ own_rule-own-requires c = let p = problem_of (words c.args.s.now) c.args.z in
 
 pub returns-then-own-ne0 : goal.returns-then-own-ne0
 returns-then-own-ne0 c = let p = problem_of (words c.args.s.now) c.args.z in
-    or_first c.own_rule-own.result (waiting_rule p c.args.rows.now c.args.i c.args.a c.args) c.if-own-ne0.true ∙ ap (λ (x : ℕ). or_else x (waiting_rule p c.args.rows.now c.args.i c.args.a c.args)) c.own_rule-own.ensures
+    or_first c.own_rule-own.result (waiting_rule p c.args.rows.now c.args.i c.args.a c.args.before) c.if-own-ne0.true ∙ ap (λ (x : ℕ). or_else x (waiting_rule p c.args.rows.now c.args.i c.args.a c.args.before)) c.own_rule-own.ensures
 
 pub returns-then-not-waits_until : goal.returns-then-not-waits_until
 returns-then-not-waits_until c = let p = problem_of (words c.args.s.now) c.args.z in
-    let e0 : own_rule p c.args.rows.now c.args.i c.args.a c.args.m c.args ≡ 0 = sym c.own_rule-own.ensures ∙ c.if-own-ne0.false in
+    let e0 : own_rule p c.args.rows.now c.args.i c.args.a c.args.m c.args.before ≡ 0 = sym c.own_rule-own.ensures ∙ c.if-own-ne0.false in
     let e6 : c.waits_until.result ≡ waits_until c.args.rows.now c.args.i (p.release c.args.a) = c.waits_until.ensures ∙ ap (waits_until c.args.rows.now c.args.i) (c.release_of-release.ensures p c.requires.placed.2 c.requires.a_lt_activities.0) in
-    rw (e0, sym e6 ∙ not-true c.waits_until.result c.if-not-waits_until.true)
+    rw (e0, sym e6 ∙ c.if-not-waits_until.true)
 
 pub returns-then-not-ends_by : goal.returns-then-not-ends_by
 returns-then-not-ends_by c = let p = problem_of (words c.args.s.now) c.args.z in
-    let e0 : own_rule p c.args.rows.now c.args.i c.args.a c.args.m c.args ≡ 0 = sym c.own_rule-own.ensures ∙ c.if-own-ne0.false in
+    let e0 : own_rule p c.args.rows.now c.args.i c.args.a c.args.m c.args.before ≡ 0 = sym c.own_rule-own.ensures ∙ c.if-own-ne0.false in
     let e6 : c.waits_until.result ≡ waits_until c.args.rows.now c.args.i (p.release c.args.a) = c.waits_until.ensures ∙ ap (waits_until c.args.rows.now c.args.i) (c.release_of-release.ensures p c.requires.placed.2 c.requires.a_lt_activities.0) in
-    rw (e0, sym e6 ∙ not-false c.waits_until.result c.if-not-waits_until.false, sym c.ends_by.ensures ∙ not-true c.ends_by.result c.if-not-ends_by.true)
+    rw (e0, sym e6 ∙ c.if-not-waits_until.false, sym c.ends_by.ensures ∙ c.if-not-ends_by.true)
 
 pub after_step-requires : goal.after_step-requires
 after_step-requires c = let p = problem_of (words c.args.s.now) c.args.z in
@@ -37,10 +36,10 @@ after_step-requires c = let p = problem_of (words c.args.s.now) c.args.z in
 
 pub returns-then-not-after_step : goal.returns-then-not-after_step
 returns-then-not-after_step c = let p = problem_of (words c.args.s.now) c.args.z in
-    let e0 : own_rule p c.args.rows.now c.args.i c.args.a c.args.m c.args ≡ 0 = sym c.own_rule-own.ensures ∙ c.if-own-ne0.false in
+    let e0 : own_rule p c.args.rows.now c.args.i c.args.a c.args.m c.args.before ≡ 0 = sym c.own_rule-own.ensures ∙ c.if-own-ne0.false in
     let e6 : c.waits_until.result ≡ waits_until c.args.rows.now c.args.i (p.release c.args.a) = c.waits_until.ensures ∙ ap (waits_until c.args.rows.now c.args.i) (c.release_of-release.ensures p c.requires.placed.2 c.requires.a_lt_activities.0) in
     let e8 : c.after_step.result ≡ after_step p c.args.rows.now c.args.i c.args.a = c.after_step.ensures p c.requires.placed.2 c.requires.a_lt_activities.0 ∙ step_asked p c.requires.a_lt_activities.4 c.requires.placed.1.activities.1 c.args.i c.args.a c.requires.a_lt_activities.0 in
-    rw (e0, sym e6 ∙ not-false c.waits_until.result c.if-not-waits_until.false, sym c.ends_by.ensures ∙ not-false c.ends_by.result c.if-not-ends_by.false, sym e8 ∙ not-true c.after_step.result c.if-not-after_step.true)
+    rw (e0, sym e6 ∙ c.if-not-waits_until.false, sym c.ends_by.ensures ∙ c.if-not-ends_by.false, sym e8 ∙ c.if-not-after_step.true)
 
 pub after_named-requires : goal.after_named-requires
 after_named-requires c = let p = problem_of (words c.args.s.now) c.args.z in
@@ -48,16 +47,16 @@ after_named-requires c = let p = problem_of (words c.args.s.now) c.args.z in
 
 pub returns-then-not-after_named : goal.returns-then-not-after_named
 returns-then-not-after_named c = let p = problem_of (words c.args.s.now) c.args.z in
-    let e0 : own_rule p c.args.rows.now c.args.i c.args.a c.args.m c.args ≡ 0 = sym c.own_rule-own.ensures ∙ c.if-own-ne0.false in
+    let e0 : own_rule p c.args.rows.now c.args.i c.args.a c.args.m c.args.before ≡ 0 = sym c.own_rule-own.ensures ∙ c.if-own-ne0.false in
     let e6 : c.waits_until.result ≡ waits_until c.args.rows.now c.args.i (p.release c.args.a) = c.waits_until.ensures ∙ ap (waits_until c.args.rows.now c.args.i) (c.release_of-release.ensures p c.requires.placed.2 c.requires.a_lt_activities.0) in
     let e8 : c.after_step.result ≡ after_step p c.args.rows.now c.args.i c.args.a = c.after_step.ensures p c.requires.placed.2 c.requires.a_lt_activities.0 ∙ step_asked p c.requires.a_lt_activities.4 c.requires.placed.1.activities.1 c.args.i c.args.a c.requires.a_lt_activities.0 in
     let e9 : c.after_named.result ≡ after_named p c.args.rows.now c.args.i c.args.a = c.after_named.ensures ∙ ap (all (λ c. ends_by c.args.rows.now c.args.i (get_or c.args.firsts.now c 0))) (c.named_by-named.ensures p c.requires.placed.2 c.requires.a_lt_activities.0 c.requires.placed.1.activities.1) ∙ names_asked p c.requires.a_lt_activities.4 c.requires.placed.1.activities.1 c.args.i c.args.a (c.requires.placed.1.predecessors c.args.a) in
-    rw (e0, sym e6 ∙ not-false c.waits_until.result c.if-not-waits_until.false, sym c.ends_by.ensures ∙ not-false c.ends_by.result c.if-not-ends_by.false, sym e8 ∙ not-false c.after_step.result c.if-not-after_step.false, sym e9 ∙ not-true c.after_named.result c.if-not-after_named.true)
+    rw (e0, sym e6 ∙ c.if-not-waits_until.false, sym c.ends_by.ensures ∙ c.if-not-ends_by.false, sym e8 ∙ c.if-not-after_step.false, sym e9 ∙ c.if-not-after_named.true)
 
 pub returns : goal.returns
 returns c = let p = problem_of (words c.args.s.now) c.args.z in
-    let e0 : own_rule p c.args.rows.now c.args.i c.args.a c.args.m c.args ≡ 0 = sym c.own_rule-own.ensures ∙ c.if-own-ne0.false in
+    let e0 : own_rule p c.args.rows.now c.args.i c.args.a c.args.m c.args.before ≡ 0 = sym c.own_rule-own.ensures ∙ c.if-own-ne0.false in
     let e6 : c.waits_until.result ≡ waits_until c.args.rows.now c.args.i (p.release c.args.a) = c.waits_until.ensures ∙ ap (waits_until c.args.rows.now c.args.i) (c.release_of-release.ensures p c.requires.placed.2 c.requires.a_lt_activities.0) in
     let e8 : c.after_step.result ≡ after_step p c.args.rows.now c.args.i c.args.a = c.after_step.ensures p c.requires.placed.2 c.requires.a_lt_activities.0 ∙ step_asked p c.requires.a_lt_activities.4 c.requires.placed.1.activities.1 c.args.i c.args.a c.requires.a_lt_activities.0 in
     let e9 : c.after_named.result ≡ after_named p c.args.rows.now c.args.i c.args.a = c.after_named.ensures ∙ ap (all (λ c. ends_by c.args.rows.now c.args.i (get_or c.args.firsts.now c 0))) (c.named_by-named.ensures p c.requires.placed.2 c.requires.a_lt_activities.0 c.requires.placed.1.activities.1) ∙ names_asked p c.requires.a_lt_activities.4 c.requires.placed.1.activities.1 c.args.i c.args.a (c.requires.placed.1.predecessors c.args.a) in
-    rw (e0, sym e6 ∙ not-false c.waits_until.result c.if-not-waits_until.false, sym c.ends_by.ensures ∙ not-false c.ends_by.result c.if-not-ends_by.false, sym e8 ∙ not-false c.after_step.result c.if-not-after_step.false, sym e9 ∙ not-false c.after_named.result c.if-not-after_named.false)
+    rw (e0, sym e6 ∙ c.if-not-waits_until.false, sym c.ends_by.ensures ∙ c.if-not-ends_by.false, sym e8 ∙ c.if-not-after_step.false, sym e9 ∙ c.if-not-after_named.false)

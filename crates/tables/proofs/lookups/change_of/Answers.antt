@@ -4,8 +4,8 @@ use Rattle.tables.proofs.lookups.change_of.Goals as goal
 
 pub returns-then-code-eq0 : goal.returns-then-code-eq0
 returns-then-code-eq0 c = λ p t.
-    own_of (p.change c.args.m c.args c.args.own) _ (code_at p c.args.table.now c.args.m c.args c.args.own t c.requires.0 c.requires.1 c.requires.2) c.if-code-eq0.true
+    own_of (p.change c.args.m c.args.before c.args.own) _ (code_at p c.args.table.now c.args.m c.args.before c.args.own t c.requires.0 c.requires.1 c.requires.2) c.if-code-eq0.true
 
 pub returns : goal.returns
 returns c = λ p t.
-    change_to (p.change c.args.m c.args c.args.own) _ (code_at p c.args.table.now c.args.m c.args c.args.own t c.requires.0 c.requires.1 c.requires.2) c.if-code-eq0.false
+    change_to (p.change c.args.m c.args.before c.args.own) _ (code_at p c.args.table.now c.args.m c.args.before c.args.own t c.requires.0 c.requires.1 c.requires.2) c.if-code-eq0.false

@@ -67,8 +67,8 @@ overflow_add-ends c = let p = problem_of (words c.args.s.now) c.args.z in
     let es = c.before_of-step.ensures p c.requires.placed.2 c.requires.placeable.known in
     let from : c.machine_before-from.result < p.machines = omega (arith, c.machine_before-from.ensures ∙ ap (λ (s : Link). machine_before s (λ q. get_or c.args.machines.now q 0)) es, c.requires.placeable.from) in
     let way = way_is p g c.requires.placed.1 c.requires.placed.4 from c.requires.placeable.on in
-    let start = start_now_lem p c.args.now c.args.machines.now c.args.ends.now c.args.a c.link_of-line.ensures es c.machine_before-from.ensures way (c.start_after-start.ensures p c.requires.placed.2 c.requires.placeable.known c.requires.placed.1.activities.1) in
-    let span = span_now_lem p c.args.now c.args.machines.now c.args.a c.link_of-line.ensures c.span_on-span.ensures in
+    let start = start_now_lem p c.args.before.now c.args.machines.now c.args.ends.now c.args.a c.link_of-line.ensures es c.machine_before-from.ensures way (c.start_after-start.ensures p c.requires.placed.2 c.requires.placeable.known c.requires.placed.1.activities.1) in
+    let span = span_now_lem p c.args.before.now c.args.machines.now c.args.a c.link_of-line.ensures c.span_on-span.ensures in
     omega (arith, start, span, c.requires.placeable.small)
 
 pub returns : goal.returns
@@ -77,6 +77,6 @@ returns c = let p = problem_of (words c.args.s.now) c.args.z in
     let es = c.before_of-step.ensures p c.requires.placed.2 c.requires.placeable.known in
     let from : c.machine_before-from.result < p.machines = omega (arith, c.machine_before-from.ensures ∙ ap (λ (s : Link). machine_before s (λ q. get_or c.args.machines.now q 0)) es, c.requires.placeable.from) in
     let way = way_is p g c.requires.placed.1 c.requires.placed.4 from c.requires.placeable.on in
-    let start = start_now_lem p c.args.now c.args.machines.now c.args.ends.now c.args.a c.link_of-line.ensures es c.machine_before-from.ensures way (c.start_after-start.ensures p c.requires.placed.2 c.requires.placeable.known c.requires.placed.1.activities.1) in
-    let span = span_now_lem p c.args.now c.args.machines.now c.args.a c.link_of-line.ensures c.span_on-span.ensures in
+    let start = start_now_lem p c.args.before.now c.args.machines.now c.args.ends.now c.args.a c.link_of-line.ensures es c.machine_before-from.ensures way (c.start_after-start.ensures p c.requires.placed.2 c.requires.placeable.known c.requires.placed.1.activities.1) in
+    let span = span_now_lem p c.args.before.now c.args.machines.now c.args.a c.link_of-line.ensures c.span_on-span.ensures in
     record { starts_after = ap (λ (x : ℕ). set c.args.starts.now c.args.a x) start; ends_after = ap (λ (x : ℕ). set c.args.ends.now c.args.a x) (ap₂ ◌+◌ start span); }

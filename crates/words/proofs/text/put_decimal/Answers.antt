@@ -2,7 +2,7 @@
 use Prim.Native.Nat.{◌+◌, ◌-◌, ◌≤◌, ◌<◌}
 use mathlib.Core.Path.{refl, sym, ◌∙◌}
 use native.Mathlib.Omega.{arith}
-use borrow.Author.Tests.{leb-true, leb-false, not-true, not-false}
+use borrow.Author.Tests.{leb-true, leb-false}
 use lib.ListN.{length, length-set}
 use Rattle.words.specs.Digits.{decimal}
 use Rattle.words.proofs.TextLaws.{written-fits, written_full, place_after-fits, place_after_full}
@@ -13,12 +13,12 @@ use Rattle.words.proofs.text.put_decimal.Goals as goal
 full : (c : goal.Then-not-has_room) → length c.args.line.now
     < c.args.at + length (decimal c.args.v)
 full c =
-    let h : length c.args.line.now < c.args.at + c.decimal_places-n.result = leb-false _ _ (sym c.has_room.ensures ∙ not-true _ c.if-not-has_room.true) in
+    let h : length c.args.line.now < c.args.at + c.decimal_places-n.result = leb-false _ _ (sym c.has_room.ensures ∙ c.if-not-has_room.true) in
     omega (arith, c.decimal_places-n.ensures, length-decimal c.args.v)
 
 roomy : (c : goal.Else-not-has_room) → c.args.at + c.decimal_places-n.result
     ≤ length c.args.line.now
-roomy c = leb-true _ _ (sym c.has_room.ensures ∙ not-false _ c.if-not-has_room.false)
+roomy c = leb-true _ _ (sym c.has_room.ensures ∙ c.if-not-has_room.false)
 
 pub returns-then-not-has_room : goal.returns-then-not-has_room
 returns-then-not-has_room c = record { line = sym (written_full _ _ _ (full c)); place = sym (place_after_full _ _ _ (full c)); }

@@ -2,7 +2,7 @@
 use Prim.Native.Nat.{◌+◌, ◌-◌, ◌≤◌, ◌<◌}
 use mathlib.Core.Path.{refl, sym, ◌∙◌}
 use native.Mathlib.Omega.{arith}
-use borrow.Author.Tests.{leb-true, leb-false, not-true, not-false}
+use borrow.Author.Tests.{leb-true, leb-false}
 use lib.ListN.{length, length-set}
 use Rattle.words.specs.Digits.{hex16}
 use Rattle.words.proofs.DigitLaws.{digits_ahead, digit_put, digits_put, length_hex}
@@ -10,10 +10,10 @@ use Rattle.words.proofs.TextLaws.{written-fits, written_full, place_after-fits, 
 use Rattle.words.proofs.text.put_hex.Goals as goal
 
 full : (c : goal.Then-not-has_room) → length c.args.line.now < c.args.at + 16
-full c = leb-false _ _ (sym c.has_room.ensures ∙ not-true _ c.if-not-has_room.true)
+full c = leb-false _ _ (sym c.has_room.ensures ∙ c.if-not-has_room.true)
 
 roomy : (c : goal.Else-not-has_room) → c.args.at + 16 ≤ length c.args.line.now
-roomy c = leb-true _ _ (sym c.has_room.ensures ∙ not-false _ c.if-not-has_room.false)
+roomy c = leb-true _ _ (sym c.has_room.ensures ∙ c.if-not-has_room.false)
 
 pub returns-then-not-has_room : goal.returns-then-not-has_room
 returns-then-not-has_room c = let h = full c in
