@@ -12,21 +12,18 @@ use Rattle.words.proofs.text.put_hex.Goals as goal
 full : (c : goal.Then-not-has_room) → length c.args.line.now < c.args.at + 16
 full c = leb-false _ _ (sym c.has_room.ensures ∙ c.if-not-has_room.true)
 
-roomy : (c : goal.Else-not-has_room) → c.args.at + 16 ≤ length c.args.line.now
-roomy c = leb-true _ _ (sym c.has_room.ensures ∙ c.if-not-has_room.false)
-
 pub returns-then-not-has_room : goal.returns-then-not-has_room
 returns-then-not-has_room c = let h = full c in
     record { line = sym (written_full _ _ _ (omega (arith, length_hex c.args.v))); place = sym (place_after_full _ _ _ (omega (arith, length_hex c.args.v))); }
 
 pub overflow_add-end : goal.overflow_add-end
-overflow_add-end c = let h = roomy c in omega arith
+overflow_add-end c = let h : c.args.at + 16 ≤ length c.args.line.now = leb-true _ _ (sym c.has_room.ensures ∙ c.if-not-has_room.false) in omega arith
 
 pub loop-i-init : goal.loop-i-init
 loop-i-init c = (omega arith, omega arith, refl, digits_ahead 16 c.args.line.now c.args.at 16 c.args.v (omega arith))
 
 pub bounds-line-i : goal.bounds-line-i
-bounds-line-i c = let h = roomy c in omega arith
+bounds-line-i c = let h : c.args.at + 16 ≤ length c.args.line.now = leb-true _ _ (sym c.has_room.ensures ∙ c.if-not-has_room.false) in omega arith
 
 pub loop-i-preserved : goal.loop-i-preserved
 loop-i-preserved c = (
@@ -41,7 +38,7 @@ shape_of-line c = c.loop-i.invariant.2
 
 pub returns : goal.returns
 unfolding hex16
-returns c = let h = roomy c in
+returns c = let h : c.args.at + 16 ≤ length c.args.line.now = leb-true _ _ (sym c.has_room.ensures ∙ c.if-not-has_room.false) in
     let fits : c.args.at + length (hex16 c.args.v) ≤ length c.args.line.now = omega (arith, length_hex c.args.v) in
     record { line = sym (digits_put 16 c.loop-i.line c.args.at c.loop-i.i c.loop-i.rest c.loop-i-test.false)
           ∙ c.loop-i.invariant.3
