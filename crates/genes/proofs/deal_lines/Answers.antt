@@ -11,7 +11,7 @@ use Rattle.genes.proofs.LotLaws.{no_lot, whole_lot, zeros_below}
 use Rattle.genes.proofs.deal_lines.Goals as goal
 
 pub returns-then-not-all : goal.returns-then-not-all
-returns-then-not-all c = no_lot (problem_of (words c.args.s.now) c.args.z) (genes_of (words c.args.s.now) c.args.z) _ refl (misses_machine (problem_of (words c.args.s.now) c.args.z) (genes_of (words c.args.s.now) c.args.z) c.fill_machines-all.ensures.value c.indexed-count.ensures.listed.whole (denied _ c.if-not-all.true))
+returns-then-not-all c = no_lot (problem_of (words c.args.s.now) c.args.z) (genes_of (words c.args.s.now) c.args.z) _ refl (misses_machine (problem_of (words c.args.s.now) c.args.z) (genes_of (words c.args.s.now) c.args.z) c.fill_machines-all.ensures.value c.indexed-count.ensures.listed.whole c.if-not-all.true)
 
 pub returns-then-count-z : goal.returns-then-count-z
 returns-then-count-z c = no_lot (problem_of (words c.args.s.now) c.args.z) (genes_of (words c.args.s.now) c.args.z) _ refl (misses-naming (problem_of (words c.args.s.now) c.args.z) (genes_of (words c.args.s.now) c.args.z) c.fill_machines-all.ensures.value c.indexed-count.ensures.listed.whole c.if-count-z.true)
@@ -23,4 +23,4 @@ pub deal-lens-requires : goal.deal-lens-requires
 deal-lens-requires c = genes_dealable c.requires.1 c.indexed-count.ensures.listed.listed (manned_whole c.requires.1 (replicate 128 0) c.requires.1.activities.1 c.fill_machines-all.ensures.machines_after (zeros_below 128 16 (omega arith))) c.requires.2
 
 pub returns : goal.returns
-returns c = whole_lot (problem_of (words c.args.s.now) c.args.z) (genes_of (words c.args.s.now) c.args.z) _ refl (misses_nothing (problem_of (words c.args.s.now) c.args.z) (genes_of (words c.args.s.now) c.args.z) c.fill_machines-all.ensures.value c.indexed-count.ensures.listed.whole (granted _ c.if-not-all.false) c.if-count-z.false) (genes-dealt c.requires.1 c.indexed-count.ensures.listed.listed (manned_whole c.requires.1 (replicate 128 0) c.requires.1.activities.1 c.fill_machines-all.ensures.machines_after (zeros_below 128 16 (omega arith))) c.deal-lens.ensures)
+returns c = whole_lot (problem_of (words c.args.s.now) c.args.z) (genes_of (words c.args.s.now) c.args.z) _ refl (misses_nothing (problem_of (words c.args.s.now) c.args.z) (genes_of (words c.args.s.now) c.args.z) c.fill_machines-all.ensures.value c.indexed-count.ensures.listed.whole c.if-not-all.false c.if-count-z.false) (genes-dealt c.requires.1 c.indexed-count.ensures.listed.listed (manned_whole c.requires.1 (replicate 128 0) c.requires.1.activities.1 c.fill_machines-all.ensures.machines_after (zeros_below 128 16 (omega arith))) c.deal-lens.ensures)

@@ -47,7 +47,7 @@ loop-i-preserved-in_default c = let none = sym c.room_on-room.ensures ∙ c.in_d
 
 pub loop-i-preserved-then-not-enters : goal.loop-i-preserved-then-not-enters
 loop-i-preserved-then-not-enters c = let one = sym c.room_on-room.ensures ∙ c.in-At.is in
-    let out = stays_out c.loop-i.best (rated_at c.args.leaving (get_or c.args.candidates.now c.loop-i.i 0) c.own_span-time.result c.in-At.spot) c.loop-i.invariant.1 (sym c.enters.ensures ∙ denied _ c.if-not-enters.true) in (
+    let out = stays_out c.loop-i.best (rated_at c.args.leaving (get_or c.args.candidates.now c.loop-i.i 0) c.own_span-time.result c.in-At.spot) c.loop-i.invariant.1 (sym c.enters.ensures ∙ c.if-not-enters.true) in (
       omega arith,
       c.loop-i.invariant.1,
       λ p able. offering_one (c.loop-i.invariant.2 p able) c.loop-i-test.true (one_there p (lines_in c.args.cells.now c.args.lens.now) (unordered c.args.starts.now c.args.ends.now) c.args.tail.now c.args.leaving (get_or c.args.candidates.now c.loop-i.i 0) c.if-to-leaving.false (c.own_span-time.ensures p able.tabled able.known (machine_in_lem c.loop-i.i able c.loop-i-test.true)) c.in-At.spot one) out c.loop-i.invariant.1,

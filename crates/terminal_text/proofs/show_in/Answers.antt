@@ -40,6 +40,6 @@ returns-in-NothingBetter c = let whole = plan_in c.args.s.now c.args.cells.now c
 pub returns-in-Better : goal.returns-in-Better
 returns-in-Better c = let whole = plan_in c.args.s.now c.args.cells.now c.args.tasks.now c.args.machines.now c.requires.0 c.requires.1 c.requires.2 in
     let told = sym c.in-Better.is ∙ c.improve-answer.ensures.answer ∙ ap answer_of (sym whole) in
-    let tasks = c.improve-answer.ensures.tasks.0 ∙ ap (λ (o : Outcome). tasks_left o c.args.tasks.now) (sym whole) in
-    let machines = c.improve-answer.ensures.tasks.1 ∙ ap (λ (o : Outcome). machines_left o c.args.machines.now) (sym whole) in
+    let tasks = c.improve-answer.ensures.tasks ∙ ap (λ (o : Outcome). tasks_left o c.args.tasks.now) (sym whole) in
+    let machines = c.improve-answer.ensures.machines ∙ ap (λ (o : Outcome). machines_left o c.args.machines.now) (sym whole) in
     short_as (fourteen_shown c.args.s.now (improved_plan c.args.s.now) (problem_in c.args.s.now (taken_in c.args.s.now)) (plan-told c.args.s.now) told c.args.tasks.now c.args.machines.now tasks machines) c.show_renewed.ensures

@@ -6,10 +6,10 @@ use Rattle.active.specs.Active.{rank}
 use Rattle.active.proofs.choosing.preferred.Goals as goal
 
 pub returns-then-not-contends : goal.returns-then-not-contends
-returns-then-not-contends c = rw (sym c.contends.ensures ∙ denied c.contends.result c.if-not-contends.true)
+returns-then-not-contends c = rw (sym c.contends.ensures ∙ c.if-not-contends.true)
 
 pub returns-then-ranks-a : goal.returns-then-ranks-a
-returns-then-ranks-a c = rw (sym c.contends.ensures ∙ granted c.contends.result c.if-not-contends.false, le-leb (rank c.args.ranks.now c.args.x) (rank c.args.ranks.now c.args.y) c.if-ranks-a.true)
+returns-then-ranks-a c = rw (sym c.contends.ensures ∙ c.if-not-contends.false, le-leb (rank c.args.ranks.now c.args.x) (rank c.args.ranks.now c.args.y) c.if-ranks-a.true)
 
 pub returns : goal.returns
-returns c = rw (sym c.contends.ensures ∙ granted c.contends.result c.if-not-contends.false, lt-leb (rank c.args.ranks.now c.args.x) (rank c.args.ranks.now c.args.y) c.if-ranks-a.false)
+returns c = rw (sym c.contends.ensures ∙ c.if-not-contends.false, lt-leb (rank c.args.ranks.now c.args.x) (rank c.args.ranks.now c.args.y) c.if-ranks-a.false)

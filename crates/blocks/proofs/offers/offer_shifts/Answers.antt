@@ -18,7 +18,7 @@ pub loop-at-smaller-then-not-enters : goal.loop-at-smaller-then-not-enters
 loop-at-smaller-then-not-enters c = omega (arith, c.loop-at-test.true)
 
 pub loop-at-preserved-then-not-enters : goal.loop-at-preserved-then-not-enters
-loop-at-preserved-then-not-enters c = let one = offers_out (Shift c.args.m c.loop-at.at c.args.to) c.loop-at.best c.weigh-length.result c.loop-at.invariant.3 (sym c.enters.ensures ∙ denied _ c.if-not-enters.true) (λ p lines order r. shift_rank c.args.all r order c.loop-at.at c.args.to c.weigh-length.result (c.weigh-length.ensures p order r.weighed r.low r.lined)) in
+loop-at-preserved-then-not-enters c = let one = offers_out (Shift c.args.m c.loop-at.at c.args.to) c.loop-at.best c.weigh-length.result c.loop-at.invariant.3 (sym c.enters.ensures ∙ c.if-not-enters.true) (λ p lines order r. shift_rank c.args.all r order c.loop-at.at c.args.to c.weigh-length.result (c.weigh-length.ensures p order r.weighed r.low r.lined)) in
     (omega (arith, c.loop-at.invariant.0), omega (arith, c.loop-at-test.true), omega (arith, c.weigh-length.auto.heads, c.loop-at.invariant.2), c.loop-at.invariant.3, offers_shift c.args.to c.args.from c.loop-at.at c.loop-at.invariant.0 c.loop-at.invariant.4 one)
 
 pub keep-best-requires : goal.keep-best-requires

@@ -32,7 +32,7 @@ pub follows-requires : goal.follows-requires
 follows-requires c = (below_at (length c.args.machines.now) c.args.path.now c.loop-last.last c.requires.0.known c.loop-last.invariant.within, below_at (length c.args.machines.now) c.args.path.now (c.loop-last.last + 1) c.requires.0.known c.loop-last-test.true, c.requires.0.placed, c.requires.0.low (get_or c.args.path.now c.loop-last.last 0))
 
 pub returns-then-not-follows : goal.returns-then-not-follows
-returns-then-not-follows c = run_stops c.loop-last.invariant c.loop-last-test.true (sym c.follows.ensures ∙ denied c.follows.result c.if-not-follows.true)
+returns-then-not-follows c = run_stops c.loop-last.invariant c.loop-last-test.true (sym c.follows.ensures ∙ c.if-not-follows.true)
 
 pub loop-last-smaller : goal.loop-last-smaller
 loop-last-smaller c = omega (arith, c.loop-last.invariant.within, c.requires.0.few)

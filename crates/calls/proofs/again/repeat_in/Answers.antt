@@ -39,7 +39,7 @@ pub shape_of-done-then-not-time_sequences : goal.shape_of-done-then-not-time_seq
 shape_of-done-then-not-time_sequences c = c.time_sequences.auto.ends ∙ c.loop-i.invariant.rooms.length-ends ∙ sym c.requires.rooms.length-ends
 
 pub returns-then-not-time_sequences : goal.returns-then-not-time_sequences
-returns-then-not-time_sequences c = stopped (problem_of (words c.args.s.now) c.args.z) (lines_in c.args.cells.now c.args.lens) c.args.times (contradicts (problem_of (words c.args.s.now) c.args.z) (lines_in c.args.cells.now c.args.lens)) (not_false (contradicts (problem_of (words c.args.s.now) c.args.z) (lines_in c.args.cells.now c.args.lens)) c.time_sequences.ensures.answer (denied _ c.if-not-time_sequences.true))
+returns-then-not-time_sequences c = stopped (problem_of (words c.args.s.now) c.args.z) (lines_in c.args.cells.now c.args.lens) c.args.times (contradicts (problem_of (words c.args.s.now) c.args.z) (lines_in c.args.cells.now c.args.lens)) (not_false (contradicts (problem_of (words c.args.s.now) c.args.z) (lines_in c.args.cells.now c.args.lens)) c.time_sequences.ensures.answer c.if-not-time_sequences.true)
 
 pub overflow_add-i : goal.overflow_add-i
 overflow_add-i c = omega (arith, c.well_formed, c.loop-i-test.true)
@@ -51,8 +51,8 @@ pub loop-i-preserved : goal.loop-i-preserved
 loop-i-preserved c = record {
       within = omega arith;
       rooms = record { length_before = c.time_sequences.auto.before ∙ c.loop-i.invariant.rooms.length_before; length-after = c.time_sequences.auto.after ∙ c.loop-i.invariant.rooms.length-after; length-machines = c.time_sequences.auto.machines ∙ c.loop-i.invariant.rooms.length-machines; length-places = c.time_sequences.auto.places ∙ c.loop-i.invariant.rooms.length-places; length_order = c.time_sequences.auto.order ∙ c.loop-i.invariant.rooms.length_order; length_starts = c.time_sequences.auto.starts ∙ c.loop-i.invariant.rooms.length_starts; length-ends = c.time_sequences.auto.ends ∙ c.loop-i.invariant.rooms.length-ends };
-      agreed = λ _. not_not (contradicts (problem_of (words c.args.s.now) c.args.z) (lines_in c.args.cells.now c.args.lens)) c.time_sequences.ensures.answer (granted _ c.if-not-time_sequences.false);
-      timed = λ _. c.time_sequences.ensures.linked.1 (granted _ c.if-not-time_sequences.false);
+      agreed = λ _. not_not (contradicts (problem_of (words c.args.s.now) c.args.z) (lines_in c.args.cells.now c.args.lens)) c.time_sequences.ensures.answer c.if-not-time_sequences.false;
+      timed = λ _. c.time_sequences.ensures.timed c.if-not-time_sequences.false;
     }
 
 pub shape_of-before-then-times-eq0 : goal.shape_of-before-then-times-eq0

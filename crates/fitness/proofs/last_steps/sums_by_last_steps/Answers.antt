@@ -14,80 +14,97 @@ use Rattle.fitness.proofs.LastLaws.{completion_last, row_steps, row_late}
 use Rattle.fitness.proofs.TaskLaws.{task_within, sums_are, completion_below, lateness_below, late_below, sums_exact}
 use Rattle.fitness.proofs.last_steps.sums_by_last_steps.Goals as goal
 
--- A row says how many steps its task has; they are among all.
-steps-are : (c : goal.After-row-of)
-    → c.row-of.result.steps ≡ (problem_of (words c.args.s.now) c.args.z).steps c.loop-t.t
-steps-are c =
-    row_steps (words c.args.s.now) c.args.z c.loop-t.t (c.args.z.at.tasks + 3 + 5 * c.loop-t.t) c.row-of.result c.row-of.ensures refl
-
-steps-within : (c : goal.After-row-of)
-    → (1 ≤ c.row-of.result.steps) × (c.loop-t.first + c.row-of.result.steps ≤ c.args.z.activities)
-steps-within c =
-    (
-      omega (arith, steps-are c, (c.requires.placed.1.steps c.loop-t.t c.loop-t-test.true).0),
-      omega (arith, steps-are c, task_within c.requires.placed.1 c.loop-t.t c.loop-t-test.true, c.loop-t.invariant.1),
-    )
-
--- The last end of a task is its completion.
-done-is : (c : goal.After-row-of)
-    → get_or c.args.ends.now (c.loop-t.first + c.row-of.result.steps - 1) 0 ≡ completion_of (problem_of (words c.args.s.now) c.args.z) (λ a. get_or c.args.ends.now a 0) c.loop-t.t
-done-is c =
-    completion_last c.requires.placed.1 c.args.ends.now c.requires.ended.1 c.loop-t.t (c.loop-t.first + c.row-of.result.steps - 1) c.loop-t-test.true
-    (omega (arith, steps-are c, (steps-within c).0, c.loop-t.invariant.1))
-
-done_below : (c : goal.After-row-of)
-    → get_or c.args.ends.now (c.loop-t.first + c.row-of.result.steps - 1) 0 ≤ latest_end
-done_below c =
-    rw (done-is c) (completion_below (words c.args.s.now) c.args.z c.requires.placed.1 c.args.ends.now c.requires.ended.0 c.loop-t.t c.loop-t-test.true)
-
--- .. and its tardiness.
-late_is : (c : goal.After-late_in-late)
-    → c.late_in-late.result ≡ lateness (problem_of (words c.args.s.now) c.args.z) (λ a. get_or c.args.ends.now a 0) c.loop-t.t
-late_is c =
-    c.late_in-late.ensures
-    ∙ row_late (words c.args.s.now) c.args.z c.loop-t.t (c.args.z.at.tasks + 3 + 5 * c.loop-t.t) c.row-of.result c.row-of.ensures refl
-    (get_or c.args.ends.now (c.loop-t.first + c.row-of.result.steps - 1) 0)
-    ∙ ap (λ (x : ℕ). tardiness_of x ((problem_of (words c.args.s.now) c.args.z).deadline c.loop-t.t)) (done-is c)
-
-late-fits : (c : goal.After-late_in-late) → c.loop-t.late + c.late_in-late.result ≤ 2 ^ 53
-late-fits c =
-    let w = words c.args.s.now in
-    let e = late_is c in
-    let i = lateness_below w c.args.z c.requires.placed.1 c.args.ends.now c.requires.ended.0 c.loop-t.t c.loop-t-test.true in
-    let h = late_below w c.args.z c.requires.placed.1 c.args.ends.now c.requires.ended.0 c.loop-t.t c.loop-t.invariant.0 in
-    omega (arith, c.loop-t.invariant.3, c.requires.placed.0.tasks)
-
 pub loop-t-init : goal.loop-t-init
 unfolding latest sum_to
 loop-t-init c = (omega arith, sym c.requires.placed.1.starting, refl, refl)
 
 pub overflow_add-last : goal.overflow_add-last
-overflow_add-last c = omega (arith, (steps-within c).1, c.requires.placed.0.activities)
+overflow_add-last c = let steps-are : c.row-of.result.steps ≡ (problem_of (words c.args.s.now) c.args.z).steps c.loop-t.t = row_steps (words c.args.s.now) c.args.z c.loop-t.t (c.args.z.at.tasks + 3 + 5 * c.loop-t.t) c.row-of.result c.row-of.ensures refl in
+    let steps-within : (1 ≤ c.row-of.result.steps) × (c.loop-t.first + c.row-of.result.steps ≤ c.args.z.activities) = (
+      omega (arith, steps-are, (c.requires.placed.1.steps c.loop-t.t c.loop-t-test.true).0),
+      omega (arith, steps-are, task_within c.requires.placed.1 c.loop-t.t c.loop-t-test.true, c.loop-t.invariant.1),
+    ) in
+    omega (arith, steps-within.1, c.requires.placed.0.activities)
 
 pub overflow_sub-last : goal.overflow_sub-last
-overflow_sub-last c = omega (arith, (steps-within c).0)
+overflow_sub-last c = let steps-are : c.row-of.result.steps ≡ (problem_of (words c.args.s.now) c.args.z).steps c.loop-t.t = row_steps (words c.args.s.now) c.args.z c.loop-t.t (c.args.z.at.tasks + 3 + 5 * c.loop-t.t) c.row-of.result c.row-of.ensures refl in
+    let steps-within : (1 ≤ c.row-of.result.steps) × (c.loop-t.first + c.row-of.result.steps ≤ c.args.z.activities) = (
+      omega (arith, steps-are, (c.requires.placed.1.steps c.loop-t.t c.loop-t-test.true).0),
+      omega (arith, steps-are, task_within c.requires.placed.1 c.loop-t.t c.loop-t-test.true, c.loop-t.invariant.1),
+    ) in
+    omega (arith, steps-within.0)
 
 pub offset_bounds-ends-last : goal.offset_bounds-ends-last
-offset_bounds-ends-last c = omega (arith, (steps-within c).1, c.requires.placed.0.activities)
+offset_bounds-ends-last c = let steps-are : c.row-of.result.steps ≡ (problem_of (words c.args.s.now) c.args.z).steps c.loop-t.t = row_steps (words c.args.s.now) c.args.z c.loop-t.t (c.args.z.at.tasks + 3 + 5 * c.loop-t.t) c.row-of.result c.row-of.ensures refl in
+    let steps-within : (1 ≤ c.row-of.result.steps) × (c.loop-t.first + c.row-of.result.steps ≤ c.args.z.activities) = (
+      omega (arith, steps-are, (c.requires.placed.1.steps c.loop-t.t c.loop-t-test.true).0),
+      omega (arith, steps-are, task_within c.requires.placed.1 c.loop-t.t c.loop-t-test.true, c.loop-t.invariant.1),
+    ) in
+    omega (arith, steps-within.1, c.requires.placed.0.activities)
 
 pub bounds-ends-last : goal.bounds-ends-last
-bounds-ends-last c = omega (arith, (steps-within c).0, (steps-within c).1, c.requires.ended.0.each)
+bounds-ends-last c = let steps-are : c.row-of.result.steps ≡ (problem_of (words c.args.s.now) c.args.z).steps c.loop-t.t = row_steps (words c.args.s.now) c.args.z c.loop-t.t (c.args.z.at.tasks + 3 + 5 * c.loop-t.t) c.row-of.result c.row-of.ensures refl in
+    let steps-within : (1 ≤ c.row-of.result.steps) × (c.loop-t.first + c.row-of.result.steps ≤ c.args.z.activities) = (
+      omega (arith, steps-are, (c.requires.placed.1.steps c.loop-t.t c.loop-t-test.true).0),
+      omega (arith, steps-are, task_within c.requires.placed.1 c.loop-t.t c.loop-t-test.true, c.loop-t.invariant.1),
+    ) in
+    omega (arith, steps-within.0, steps-within.1, c.requires.ended.0.each)
 
 pub late_in-late-requires : goal.late_in-late-requires
-late_in-late-requires c = omega (arith, done_below c)
+late_in-late-requires c = let steps-are : c.row-of.result.steps ≡ (problem_of (words c.args.s.now) c.args.z).steps c.loop-t.t = row_steps (words c.args.s.now) c.args.z c.loop-t.t (c.args.z.at.tasks + 3 + 5 * c.loop-t.t) c.row-of.result c.row-of.ensures refl in
+    let steps-within : (1 ≤ c.row-of.result.steps) × (c.loop-t.first + c.row-of.result.steps ≤ c.args.z.activities) = (
+      omega (arith, steps-are, (c.requires.placed.1.steps c.loop-t.t c.loop-t-test.true).0),
+      omega (arith, steps-are, task_within c.requires.placed.1 c.loop-t.t c.loop-t-test.true, c.loop-t.invariant.1),
+    ) in
+    let done-is : get_or c.args.ends.now (c.loop-t.first + c.row-of.result.steps - 1) 0 ≡ completion_of (problem_of (words c.args.s.now) c.args.z) (λ a. get_or c.args.ends.now a 0) c.loop-t.t = completion_last c.requires.placed.1 c.args.ends.now c.requires.ended.1 c.loop-t.t (c.loop-t.first + c.row-of.result.steps - 1) c.loop-t-test.true
+    (omega (arith, steps-are, steps-within.0, c.loop-t.invariant.1)) in
+    let done_below : get_or c.args.ends.now (c.loop-t.first + c.row-of.result.steps - 1) 0 ≤ latest_end = rw done-is (completion_below (words c.args.s.now) c.args.z c.requires.placed.1 c.args.ends.now c.requires.ended.0 c.loop-t.t c.loop-t-test.true) in
+    omega (arith, done_below)
 
 pub overflow_add-late : goal.overflow_add-late
-overflow_add-late c = omega (arith, late-fits c)
+overflow_add-late c = let steps-are : c.row-of.result.steps ≡ (problem_of (words c.args.s.now) c.args.z).steps c.loop-t.t = row_steps (words c.args.s.now) c.args.z c.loop-t.t (c.args.z.at.tasks + 3 + 5 * c.loop-t.t) c.row-of.result c.row-of.ensures refl in
+    let steps-within : (1 ≤ c.row-of.result.steps) × (c.loop-t.first + c.row-of.result.steps ≤ c.args.z.activities) = (
+      omega (arith, steps-are, (c.requires.placed.1.steps c.loop-t.t c.loop-t-test.true).0),
+      omega (arith, steps-are, task_within c.requires.placed.1 c.loop-t.t c.loop-t-test.true, c.loop-t.invariant.1),
+    ) in
+    let done-is : get_or c.args.ends.now (c.loop-t.first + c.row-of.result.steps - 1) 0 ≡ completion_of (problem_of (words c.args.s.now) c.args.z) (λ a. get_or c.args.ends.now a 0) c.loop-t.t = completion_last c.requires.placed.1 c.args.ends.now c.requires.ended.1 c.loop-t.t (c.loop-t.first + c.row-of.result.steps - 1) c.loop-t-test.true
+    (omega (arith, steps-are, steps-within.0, c.loop-t.invariant.1)) in
+    let late_is : c.late_in-late.result ≡ lateness (problem_of (words c.args.s.now) c.args.z) (λ a. get_or c.args.ends.now a 0) c.loop-t.t = c.late_in-late.ensures
+    ∙ row_late (words c.args.s.now) c.args.z c.loop-t.t (c.args.z.at.tasks + 3 + 5 * c.loop-t.t) c.row-of.result c.row-of.ensures refl
+    (get_or c.args.ends.now (c.loop-t.first + c.row-of.result.steps - 1) 0)
+    ∙ ap (λ (x : ℕ). tardiness_of x ((problem_of (words c.args.s.now) c.args.z).deadline c.loop-t.t)) done-is in
+    let late-fits : c.loop-t.late + c.late_in-late.result ≤ 2 ^ 53 = let w = words c.args.s.now in
+    let e = late_is in
+    let i = lateness_below w c.args.z c.requires.placed.1 c.args.ends.now c.requires.ended.0 c.loop-t.t c.loop-t-test.true in
+    let h = late_below w c.args.z c.requires.placed.1 c.args.ends.now c.requires.ended.0 c.loop-t.t c.loop-t.invariant.0 in
+    omega (arith, c.loop-t.invariant.3, c.requires.placed.0.tasks) in
+    omega (arith, late-fits)
 
 pub overflow_add-first : goal.overflow_add-first
-overflow_add-first c = omega (arith, (steps-within c).1, c.requires.placed.0.activities)
+overflow_add-first c = let steps-are : c.row-of.result.steps ≡ (problem_of (words c.args.s.now) c.args.z).steps c.loop-t.t = row_steps (words c.args.s.now) c.args.z c.loop-t.t (c.args.z.at.tasks + 3 + 5 * c.loop-t.t) c.row-of.result c.row-of.ensures refl in
+    let steps-within : (1 ≤ c.row-of.result.steps) × (c.loop-t.first + c.row-of.result.steps ≤ c.args.z.activities) = (
+      omega (arith, steps-are, (c.requires.placed.1.steps c.loop-t.t c.loop-t-test.true).0),
+      omega (arith, steps-are, task_within c.requires.placed.1 c.loop-t.t c.loop-t-test.true, c.loop-t.invariant.1),
+    ) in
+    omega (arith, steps-within.1, c.requires.placed.0.activities)
 
 pub loop-t-preserved : goal.loop-t-preserved
-loop-t-preserved c = (
+loop-t-preserved c = let steps-are : c.row-of.result.steps ≡ (problem_of (words c.args.s.now) c.args.z).steps c.loop-t.t = row_steps (words c.args.s.now) c.args.z c.loop-t.t (c.args.z.at.tasks + 3 + 5 * c.loop-t.t) c.row-of.result c.row-of.ensures refl in
+    let steps-within : (1 ≤ c.row-of.result.steps) × (c.loop-t.first + c.row-of.result.steps ≤ c.args.z.activities) = (
+      omega (arith, steps-are, (c.requires.placed.1.steps c.loop-t.t c.loop-t-test.true).0),
+      omega (arith, steps-are, task_within c.requires.placed.1 c.loop-t.t c.loop-t-test.true, c.loop-t.invariant.1),
+    ) in
+    let done-is : get_or c.args.ends.now (c.loop-t.first + c.row-of.result.steps - 1) 0 ≡ completion_of (problem_of (words c.args.s.now) c.args.z) (λ a. get_or c.args.ends.now a 0) c.loop-t.t = completion_last c.requires.placed.1 c.args.ends.now c.requires.ended.1 c.loop-t.t (c.loop-t.first + c.row-of.result.steps - 1) c.loop-t-test.true
+    (omega (arith, steps-are, steps-within.0, c.loop-t.invariant.1)) in
+    let late_is : c.late_in-late.result ≡ lateness (problem_of (words c.args.s.now) c.args.z) (λ a. get_or c.args.ends.now a 0) c.loop-t.t = c.late_in-late.ensures
+    ∙ row_late (words c.args.s.now) c.args.z c.loop-t.t (c.args.z.at.tasks + 3 + 5 * c.loop-t.t) c.row-of.result c.row-of.ensures refl
+    (get_or c.args.ends.now (c.loop-t.first + c.row-of.result.steps - 1) 0)
+    ∙ ap (λ (x : ℕ). tardiness_of x ((problem_of (words c.args.s.now) c.args.z).deadline c.loop-t.t)) done-is in
+    (
       omega (arith, c.loop-t-test.true),
-      omega (arith, c.requires.placed.1.next_first c.loop-t.t, c.loop-t.invariant.1, steps-are c),
-      latest_next _ c.loop-t.invariant.2 (done-is c) c.later-makespan.ensures,
-      sum_next _ c.loop-t.invariant.3 (late_is c),
+      omega (arith, c.requires.placed.1.next_first c.loop-t.t, c.loop-t.invariant.1, steps-are),
+      latest_next _ c.loop-t.invariant.2 done-is c.later-makespan.ensures,
+      sum_next _ c.loop-t.invariant.3 late_is,
     )
 
 pub returns : goal.returns

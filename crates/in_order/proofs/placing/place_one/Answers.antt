@@ -24,7 +24,7 @@ last_placed-line-requires c = let p = problem_of (words c.args.s.now) c.args.z i
 pub seat_after-seat-requires : goal.seat_after-seat-requires
 seat_after-seat-requires c = let p = problem_of (words c.args.s.now) c.args.z in
     let g = genes_of (words c.args.s.now) c.args.z in
-    (c.requires.placed, ((c.requires.coming.0.here, c.requires.coming.0.there, line_below p g c.requires.placed.1 c.requires.coming.0 c.last_placed-line.ensures, step_below p g c.requires.placed.1 c.requires.coming.0, way_small p g c.requires.placed.1 c.requires.coming.0), (c.requires.coming.0.sound.sized.ends, ends_small p g c.requires.placed.1 c.requires.coming.0)))
+    record { placed = c.requires.placed; a_lt_activities = (c.requires.coming.0.here, c.requires.coming.0.there, line_below p g c.requires.placed.1 c.requires.coming.0 c.last_placed-line.ensures, step_below p g c.requires.placed.1 c.requires.coming.0, way_small p g c.requires.placed.1 c.requires.coming.0); ends_len = (c.requires.coming.0.sound.sized.ends, ends_small p g c.requires.placed.1 c.requires.coming.0); }
 
 pub sit-requires : goal.sit-requires
 sit-requires c = let p = problem_of (words c.args.s.now) c.args.z in

@@ -24,4 +24,4 @@ pub shape_of-tail : goal.shape_of-tail
 shape_of-tail c = c.see_kept-held.auto.tail ∙ c.see_path-walked.auto.tail
 
 pub returns : goal.returns
-returns c = record { answer = seen-answer (problem_of (words c.args.s.now) c.args.z) (lines_in c.args.cells.now c.args.lens) c.see_path-walked.ensures.counts.0 c.see_path-walked.ensures.counts.1 c.see_kept-held.ensures.counts.0 c.see_kept-held.ensures.counts.1 (c.fitness_bits-bits.ensures ∙ ap (to_bits binary64) (fitness_is (problem_of (words c.args.s.now) c.args.z) (lines_in c.args.cells.now c.args.lens) c.requires.ready.2)); left = record { path = c.see_path-walked.ensures.path.0; moves = c.see_path-walked.ensures.path.1; kept = c.see_kept-held.ensures.kept.0; ranks = c.see_kept-held.ensures.kept.1 }; }
+returns c = record { answer = seen-answer (problem_of (words c.args.s.now) c.args.z) (lines_in c.args.cells.now c.args.lens) c.see_path-walked.ensures.counts.0 c.see_path-walked.ensures.counts.1 c.see_kept-held.ensures.counts.0 c.see_kept-held.ensures.counts.1 (c.fitness_bits-bits.ensures ∙ ap (to_bits binary64) (fitness_is (problem_of (words c.args.s.now) c.args.z) (lines_in c.args.cells.now c.args.lens) c.requires.ready.2)); left = record { path = c.see_path-walked.ensures.path; moves = c.see_path-walked.ensures.moves; kept = c.see_kept-held.ensures.kept; ranks = c.see_kept-held.ensures.ranks }; }

@@ -50,7 +50,7 @@ returns-then-not-after_named c = let p = problem_of (words c.args.s.now) c.args.
     let e0 : own_rule p c.args.rows.now c.args.i c.args.a c.args.m c.args.before ≡ 0 = sym c.own_rule-own.ensures ∙ c.if-own-ne0.false in
     let e6 : c.waits_until.result ≡ waits_until c.args.rows.now c.args.i (p.release c.args.a) = c.waits_until.ensures ∙ ap (waits_until c.args.rows.now c.args.i) (c.release_of-release.ensures p c.requires.placed.2 c.requires.a_lt_activities.0) in
     let e8 : c.after_step.result ≡ after_step p c.args.rows.now c.args.i c.args.a = c.after_step.ensures p c.requires.placed.2 c.requires.a_lt_activities.0 ∙ step_asked p c.requires.a_lt_activities.4 c.requires.placed.1.activities.1 c.args.i c.args.a c.requires.a_lt_activities.0 in
-    let e9 : c.after_named.result ≡ after_named p c.args.rows.now c.args.i c.args.a = c.after_named.ensures ∙ ap (all (λ c. ends_by c.args.rows.now c.args.i (get_or c.args.firsts.now c 0))) (c.named_by-named.ensures p c.requires.placed.2 c.requires.a_lt_activities.0 c.requires.placed.1.activities.1) ∙ names_asked p c.requires.a_lt_activities.4 c.requires.placed.1.activities.1 c.args.i c.args.a (c.requires.placed.1.predecessors c.args.a) in
+    let e9 : c.after_named.result ≡ after_named p c.args.rows.now c.args.i c.args.a = c.after_named.ensures ∙ ap (all (λ x. ends_by c.args.rows.now c.args.i (get_or c.args.firsts.now x 0))) (c.named_by-named.ensures p c.requires.placed.2 c.requires.a_lt_activities.0 c.requires.placed.1.activities.1) ∙ names_asked p c.requires.a_lt_activities.4 c.requires.placed.1.activities.1 c.args.i c.args.a (c.requires.placed.1.predecessors c.args.a) in
     rw (e0, sym e6 ∙ c.if-not-waits_until.false, sym c.ends_by.ensures ∙ c.if-not-ends_by.false, sym e8 ∙ c.if-not-after_step.false, sym e9 ∙ c.if-not-after_named.true)
 
 pub returns : goal.returns
@@ -58,5 +58,5 @@ returns c = let p = problem_of (words c.args.s.now) c.args.z in
     let e0 : own_rule p c.args.rows.now c.args.i c.args.a c.args.m c.args.before ≡ 0 = sym c.own_rule-own.ensures ∙ c.if-own-ne0.false in
     let e6 : c.waits_until.result ≡ waits_until c.args.rows.now c.args.i (p.release c.args.a) = c.waits_until.ensures ∙ ap (waits_until c.args.rows.now c.args.i) (c.release_of-release.ensures p c.requires.placed.2 c.requires.a_lt_activities.0) in
     let e8 : c.after_step.result ≡ after_step p c.args.rows.now c.args.i c.args.a = c.after_step.ensures p c.requires.placed.2 c.requires.a_lt_activities.0 ∙ step_asked p c.requires.a_lt_activities.4 c.requires.placed.1.activities.1 c.args.i c.args.a c.requires.a_lt_activities.0 in
-    let e9 : c.after_named.result ≡ after_named p c.args.rows.now c.args.i c.args.a = c.after_named.ensures ∙ ap (all (λ c. ends_by c.args.rows.now c.args.i (get_or c.args.firsts.now c 0))) (c.named_by-named.ensures p c.requires.placed.2 c.requires.a_lt_activities.0 c.requires.placed.1.activities.1) ∙ names_asked p c.requires.a_lt_activities.4 c.requires.placed.1.activities.1 c.args.i c.args.a (c.requires.placed.1.predecessors c.args.a) in
+    let e9 : c.after_named.result ≡ after_named p c.args.rows.now c.args.i c.args.a = c.after_named.ensures ∙ ap (all (λ x. ends_by c.args.rows.now c.args.i (get_or c.args.firsts.now x 0))) (c.named_by-named.ensures p c.requires.placed.2 c.requires.a_lt_activities.0 c.requires.placed.1.activities.1) ∙ names_asked p c.requires.a_lt_activities.4 c.requires.placed.1.activities.1 c.args.i c.args.a (c.requires.placed.1.predecessors c.args.a) in
     rw (e0, sym e6 ∙ c.if-not-waits_until.false, sym c.ends_by.ensures ∙ c.if-not-ends_by.false, sym e8 ∙ c.if-not-after_step.false, sym e9 ∙ c.if-not-after_named.false)
