@@ -41,7 +41,7 @@ pub record Reassigns (p : Problem) (lines : Lines) (path : List ℕ) (x : Rated)
 least_within : (f : ℕ → ℕ) (best at count last : ℕ) → best ≤ last → at + count ≤ suc last → least f best at count ≤ last
 unfolding least
 least_within f best at zero last h k = h
-least_within f best at (suc count) last h k = least_within f _ (suc at) count last (by_test (ltb (f at) (f best))) (omega arith)
+least_within f best at (suc count) last h k = least_within f (cond (ltb (f at) (f best)) at best) (suc at) count last (by_test (ltb (f at) (f best))) (omega arith)
   where
     by_test : (t : Bool) → cond t at best ≤ last
     by_test true = omega arith

@@ -38,7 +38,7 @@ pub loop-last-smaller : goal.loop-last-smaller
 loop-last-smaller c = omega (arith, c.loop-last.invariant.within, c.requires.0.few)
 
 pub loop-last-preserved : goal.loop-last-preserved
-loop-last-preserved c = run_goes c.loop-last.invariant c.loop-last-test.true (sym c.follows.ensures ∙ affirmed c.follows.result c.if-not-follows.false)
+loop-last-preserved c = run_goes c.loop-last.invariant c.loop-last-test.true (sym c.follows.ensures ∙ c.if-not-follows.false)
 
 pub returns : goal.returns
 returns c = run_out c.loop-last.invariant c.loop-last-test.false
