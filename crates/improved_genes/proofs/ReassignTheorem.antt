@@ -35,7 +35,7 @@ least-between : (f : ℕ → ℕ) (best at count first last : ℕ) → (first �
     → (first ≤ least f best at count) × (least f best at count ≤ last)
 unfolding least
 least-between f best at zero first last b h k = b
-least-between f best at (suc count) first last b h k = least-between f _ (suc at) count first last (by (ltb (f at) (f best))) (omega arith) (omega arith)
+least-between f best at (suc count) first last b h k = least-between f (cond (ltb (f at) (f best)) at best) (suc at) count first last (by (ltb (f at) (f best))) (omega arith) (omega arith)
   where
     by : (t : Bool) → (first ≤ cond t at best) × (cond t at best ≤ last)
     by true = (h, omega (arith, k))

@@ -38,4 +38,4 @@ put_sheet-requires c = let a = length-take-le c.args.n c.args.activities.now c.r
 
 -- src/lib.rt:15:1
 pub returns : goal.returns
-returns c = rows_short c.args.n c.args.activities.now c.requires.n_bound.0 c.requires.n_in_bounds.0 c.put_sheet.ensures
+returns c = rows_short c.args.n c.args.activities.now c.requires.n_bound.0 c.requires.n_in_bounds.0 (c.put_sheet.ensures.text, c.put_sheet.ensures.short)

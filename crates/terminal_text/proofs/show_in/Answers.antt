@@ -15,7 +15,7 @@ show_renewed-requires c = let whole = plan_in c.args.s.now c.args.cells.now c.ar
 pub returns-in-Refused : goal.returns-in-Refused
 returns-in-Refused c = let whole = plan_in c.args.s.now c.args.cells.now c.args.tasks.now c.args.machines.now c.requires.0 c.requires.1 c.requires.2 in
     let told = sym c.in-Refused.is ∙ c.improve-answer.ensures.answer ∙ ap answer_of (sym whole) in
-    refusal_short (refused_shown c.args.s.now (improved_plan c.args.s.now) told) c.put_refusal.ensures
+    refusal_short (refused_shown c.args.s.now (improved_plan c.args.s.now) told) (c.put_refusal.ensures.text, c.put_refusal.ensures.short)
 
 pub returns-in-NoSteps : goal.returns-in-NoSteps
 returns-in-NoSteps c = let whole = plan_in c.args.s.now c.args.cells.now c.args.tasks.now c.args.machines.now c.requires.0 c.requires.1 c.requires.2 in

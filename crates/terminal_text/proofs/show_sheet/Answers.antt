@@ -24,7 +24,7 @@ put_first-requires c = let o = decoded_plan better_placement c.args.s.now in
 pub returns-in-Refused : goal.returns-in-Refused
 returns-in-Refused c = let o = decoded_plan better_placement c.args.s.now in
     let told = sym c.in-Refused.is ∙ c.decode-answer.ensures.answer in
-    refusal_short (refusal_shown c.args.outcome o told) c.put_refusal.ensures
+    refusal_short (refusal_shown c.args.outcome o told) (c.put_refusal.ensures.text, c.put_refusal.ensures.short)
 
 -- src/lib.rt:43:1
 pub returns-in-Rows : goal.returns-in-Rows
