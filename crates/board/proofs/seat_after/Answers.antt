@@ -9,8 +9,7 @@ use Rattle.board.proofs.seat_after.Goals as goal
 
 pub start_after-start-requires : goal.start_after-start-requires
 start_after-start-requires c = let p = problem_of (words c.args.s.now) c.args.z in
-    let g = genes_of (words c.args.s.now) c.args.z in
-    (
+    let g = genes_of (words c.args.s.now) c.args.z in (
       record { held = record { problem = p; tabled = c.requires.placed.2; known = c.requires.a_lt_activities.0; few = c.requires.placed.1.activities.1 }; named = rw c.requires.ends_len.0 (c.requires.placed.1.predecessors c.args.a) },
       ending c.requires.ends_len.0 c.requires.a_lt_activities.2 c.requires.ends_len.1,
       ending c.requires.ends_len.0 c.requires.a_lt_activities.3 c.requires.ends_len.1,

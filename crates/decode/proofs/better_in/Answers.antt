@@ -10,7 +10,7 @@ use Rattle.decode.proofs.EndLaws.{few_rows, rows_long, active-better, in_order-b
 use Rattle.decode.proofs.better_in.Goals as goal
 
 pub active_sheet-tight-requires : goal.active_sheet-tight-requires
-active_sheet-tight-requires c = record { placed = (c.requires.placed.0, c.requires.placed.1, c.requires.placed.2); weighed = (c.requires.weighed.0, c.requires.activities_in_bounds.1); }
+active_sheet-tight-requires c = record { placed = (c.requires.placed.0, c.requires.placed.1, c.requires.placed.2); weighed = (c.requires.weighed.0, c.requires.activities_in_bounds.1) }
 
 pub put_times-requires : goal.put_times-requires
 put_times-requires c = (same_long (well_placed (problem_of (words c.args.s.now) c.args.z) (genes_of (words c.args.s.now) c.args.z) c.requires.placed.1).sound (active-placed (problem_of (words c.args.s.now) c.args.z) (genes_of (words c.args.s.now) c.args.z) c.requires.placed.1).sound c.in_order_sheet-usual.ensures.times c.active_sheet-tight.ensures.times).0
@@ -44,7 +44,7 @@ shape_of-setups-then-tight-usual c = let k = (active-placed (problem_of (words c
 
 pub returns-then-tight-usual : goal.returns-then-tight-usual
 returns-then-tight-usual c = let e = active-better (problem_of (words c.args.s.now) c.args.z) (genes_of (words c.args.s.now) c.args.z) c.active_sheet-tight.ensures.fitness c.in_order_sheet-usual.ensures.fitness c.if-tight-usual.true in
-    record { order = listed_by e (listed_as c.active_sheet-tight.ensures.order.listed c.put_rows.ensures); times = timed_by e (timed_copy c.active_sheet-tight.ensures.times c.put_times.ensures c.put_times-then-tight-usual.ensures c.put_times-then-tight-usual-2.ensures); }
+    record { order = listed_by e (listed_as c.active_sheet-tight.ensures.order.listed c.put_rows.ensures); times = timed_by e (timed_copy c.active_sheet-tight.ensures.times c.put_times.ensures c.put_times-then-tight-usual.ensures c.put_times-then-tight-usual-2.ensures) }
 
 pub slice_bounds-put_rows-end-2 : goal.slice_bounds-put_rows-end-2
 slice_bounds-put_rows-end-2 c = let h = few_rows (well_placed (problem_of (words c.args.s.now) c.args.z) (genes_of (words c.args.s.now) c.args.z) c.requires.placed.1).sound in omega (arith, h, c.in_order_sheet-usual.ensures.order.whole, c.requires.activities_in_bounds.0)
@@ -57,4 +57,4 @@ put_rows-requires-2 c = let h = few_rows (well_placed (problem_of (words c.args.
 
 pub returns : goal.returns
 returns c = let e = in_order-better (problem_of (words c.args.s.now) c.args.z) (genes_of (words c.args.s.now) c.args.z) c.active_sheet-tight.ensures.fitness c.in_order_sheet-usual.ensures.fitness c.if-tight-usual.false in
-    record { order = listed_by e (listed_as c.in_order_sheet-usual.ensures.order.listed c.put_rows-2.ensures); times = timed_by e c.in_order_sheet-usual.ensures.times; }
+    record { order = listed_by e (listed_as c.in_order_sheet-usual.ensures.order.listed c.put_rows-2.ensures); times = timed_by e c.in_order_sheet-usual.ensures.times }

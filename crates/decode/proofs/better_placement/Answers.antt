@@ -13,4 +13,4 @@ pub slice_bounds-better_in-end-5 : goal.slice_bounds-better_in-end-5
 slice_bounds-better_in-end-5 c = sym (zeros_long c.args.z.activities c.requires.placed.1.activities.1)
 
 pub better_in-requires : goal.better_in-requires
-better_in-requires c = record { placed = c.requires.placed; weighed = c.requires.weighed; activities_in_bounds = (c.requires.placed.1.activities.1, zeros-roomy c.args.z.activities c.requires.placed.1.activities.1); }
+better_in-requires c = record { placed = c.requires.placed; weighed = c.requires.weighed; activities_in_bounds = (c.requires.placed.1.activities.1, zeros-roomy c.args.z.activities c.requires.placed.1.activities.1) }

@@ -15,19 +15,19 @@ pub returns-then-not-rows_fit : goal.returns-then-not-rows_fit
 returns-then-not-rows_fit c = let rule = rule_of c.args.which in
     let room = roomy c.args.activities.now c.args.machines.now c.args.starts.now c.args.ends.now c.args.setups.now in
     let b = sym c.rows_fit.ensures ∙ c.if-not-rows_fit.true in
-    record { answer = six-answer (decoded_plan rule c.args.s.now) room b; rows = six-leaves (decoded_plan rule c.args.s.now) room b; }
+    record { answer = six-answer (decoded_plan rule c.args.s.now) room b; rows = six-leaves (decoded_plan rule c.args.s.now) room b }
 
 pub returns-in-No : goal.returns-in-No
 returns-in-No c = let rule = rule_of c.args.which in
     let room = roomy c.args.activities.now c.args.machines.now c.args.starts.now c.args.ends.now c.args.setups.now in
     let e = not_decoded rule c.args.s.now c.take_in-r.ensures.answer c.in-No.is ∙ roomy_on (decoded_plan rule c.args.s.now) room (sym c.rows_fit.ensures ∙ c.if-not-rows_fit.false) in
-    record { answer = ap answer_of e; rows = leaves_as e (record { activities = refl; machines = refl; starts = refl; ends = refl; setups = refl }); }
+    record { answer = ap answer_of e; rows = leaves_as e (record { activities = refl; machines = refl; starts = refl; ends = refl; setups = refl }) }
 
 pub write_placed-requires : goal.write_placed-requires
-write_placed-requires c = record { taken = taken_asks c.args.s.now [] c.take_in-r.ensures.answer c.layout_of-z.ensures c.in_default.is (c.take_in-r.ensures.tabled c.in_default.is); roomy = rows_room c.args.activities.now c.args.machines.now c.args.starts.now c.args.ends.now c.args.setups.now (sym c.rows_fit.ensures ∙ c.if-not-rows_fit.false); }
+write_placed-requires c = record { taken = taken_asks c.args.s.now [] c.take_in-r.ensures.answer c.layout_of-z.ensures c.in_default.is (c.take_in-r.ensures.tabled c.in_default.is); roomy = rows_room c.args.activities.now c.args.machines.now c.args.starts.now c.args.ends.now c.args.setups.now (sym c.rows_fit.ensures ∙ c.if-not-rows_fit.false) }
 
 pub returns : goal.returns
 returns c = let rule = rule_of c.args.which in
     let room = roomy c.args.activities.now c.args.machines.now c.args.starts.now c.args.ends.now c.args.setups.now in
     let e = ap (λ z. board_sheet (problem_of (words c.args.s.now) z) (genes_of (words c.args.s.now) z) (rule (problem_of (words c.args.s.now) z) (genes_of (words c.args.s.now) z))) c.layout_of-z.ensures ∙ decoded_plan' rule c.args.s.now c.take_in-r.ensures.answer c.in_default.is ∙ roomy_on (decoded_plan rule c.args.s.now) room (sym c.rows_fit.ensures ∙ c.if-not-rows_fit.false) in
-    record { answer = c.write_placed.ensures.answer ∙ ap answer_of e; rows = leaves_as e c.write_placed.ensures.rows; }
+    record { answer = c.write_placed.ensures.answer ∙ ap answer_of e; rows = leaves_as e c.write_placed.ensures.rows }

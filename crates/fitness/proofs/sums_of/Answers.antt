@@ -50,8 +50,7 @@ pub loop-t-preserved : goal.loop-t-preserved
 loop-t-preserved c = let done-is : c.completion-done.result ≡ completion_of (problem_of (words c.args.s.now) c.args.z) (λ a. get_or c.args.ends.now a 0) c.loop-t.t = completion_is (problem_of (words c.args.s.now) c.args.z) (λ a. get_or c.args.ends.now a 0) c.loop-t.t c.loop-t.first
     c.steps-steps.result c.completion-done.result c.completion-done.ensures c.loop-t.invariant.1 c.steps-steps.ensures in
     let late_is : c.tardiness-late.result ≡ lateness (problem_of (words c.args.s.now) c.args.z) (λ a. get_or c.args.ends.now a 0) c.loop-t.t = lateness_is (problem_of (words c.args.s.now) c.args.z) (λ a. get_or c.args.ends.now a 0) c.loop-t.t
-    c.completion-done.result c.tardiness-late.result c.tardiness-late.ensures c.deadline-due.ensures done-is in
-    (
+    c.completion-done.result c.tardiness-late.result c.tardiness-late.ensures c.deadline-due.ensures done-is in (
       omega (arith, c.loop-t-test.true),
       omega (arith, c.requires.placed.1.next_first c.loop-t.t, c.loop-t.invariant.1, c.steps-steps.ensures),
       latest_next _ c.loop-t.invariant.2 done-is c.later-makespan.ensures,

@@ -21,4 +21,4 @@ pub shape_of-machines : goal.shape_of-machines
 shape_of-machines c = c.loop-a.invariant.sized
 
 pub returns : goal.returns
-returns c = record { value = (fill_end c.loop-a.invariant c.loop-a-test.false).0; machines_after = (fill_end c.loop-a.invariant c.loop-a-test.false).1; }
+returns c = record { value = (fill_end c.loop-a.invariant c.loop-a-test.false).0; machines_after = (fill_end c.loop-a.invariant c.loop-a-test.false).1 }

@@ -19,11 +19,11 @@ returns-then-x-y-2 c = sym (c.loop-left.invariant.2 ∙ before_more (words c.arg
 
 pub loop-left-preserved : goal.loop-left-preserved
 loop-left-preserved c = (
-      omega arith,
-      omega arith,
-      c.loop-left.invariant.2 ∙ before_same (words c.args.s.now) c.loop-left.left c.loop-left.p c.loop-left.q c.loop-left-test.true
-          (rw (c.word-x.ensures, c.word-y.ensures) at c.if-x-y.false) (sym c.word-x.ensures ∙ c.if-x-y-2.false ∙ c.word-y.ensures),
-    )
+  omega arith,
+  omega arith,
+  c.loop-left.invariant.2 ∙ before_same (words c.args.s.now) c.loop-left.left c.loop-left.p c.loop-left.q c.loop-left-test.true
+      (rw (c.word-x.ensures, c.word-y.ensures) at c.if-x-y.false) (sym c.word-x.ensures ∙ c.if-x-y-2.false ∙ c.word-y.ensures),
+)
 
 pub returns : goal.returns
 returns c = sym (c.loop-left.invariant.2 ∙ before_none (words c.args.s.now) c.loop-left.left c.loop-left.p c.loop-left.q c.loop-left-test.false)

@@ -16,10 +16,10 @@ meet-after_task-requires c = let before = state_of c.args.counts.now c.args.stac
 
 pub release_naming-requires : goal.release_naming-requires
 release_naming-requires c = let before = state_of c.args.counts.now c.args.stack.now c.args.top in
-    record { a_in_bounds = (omega (arith, c.requires.a_in_bounds.1.bounded, c.requires.a_in_bounds.0), c.requires.a_in_bounds.1.rising c.args.a c.requires.a_in_bounds.0, part_within c.requires.a_in_bounds.1 c.args.a c.requires.a_in_bounds.0); safe = naming_safe c.args.line.now c.args.task.now c.args.at.now c.args.waiting.now c.args.a before (length c.args.stack.now) c.requires.safe c.meet-after_line.ensures c.meet-after_task.ensures _ (c.meet-after_task.auto.stack ∙ c.meet-after_line.auto.stack); }
+    record { a_in_bounds = (omega (arith, c.requires.a_in_bounds.1.bounded, c.requires.a_in_bounds.0), c.requires.a_in_bounds.1.rising c.args.a c.requires.a_in_bounds.0, part_within c.requires.a_in_bounds.1 c.args.a c.requires.a_in_bounds.0); safe = naming_safe c.args.line.now c.args.task.now c.args.at.now c.args.waiting.now c.args.a before (length c.args.stack.now) c.requires.safe c.meet-after_line.ensures c.meet-after_task.ensures _ (c.meet-after_task.auto.stack ∙ c.meet-after_line.auto.stack) }
 
 pub returns : goal.returns
 returns c = let before = state_of c.args.counts.now c.args.stack.now c.args.top in (
-      all_freed c.args.line.now c.args.task.now c.args.at.now c.args.waiting.now c.args.a before (length c.args.stack.now) c.requires.safe c.meet-after_line.ensures c.meet-after_task.ensures c.release_naming.ensures.0,
-      omega (arith, c.release_naming.ensures.1, c.meet-after_task.auto.stack, c.meet-after_line.auto.stack),
-    )
+  all_freed c.args.line.now c.args.task.now c.args.at.now c.args.waiting.now c.args.a before (length c.args.stack.now) c.requires.safe c.meet-after_line.ensures c.meet-after_task.ensures c.release_naming.ensures.0,
+  omega (arith, c.release_naming.ensures.1, c.meet-after_task.auto.stack, c.meet-after_line.auto.stack),
+)

@@ -12,7 +12,7 @@ pub bounds-order-taken : goal.bounds-order-taken
 bounds-order-taken c = let h = take-place c.loop-top.invariant c.loop-top-test.true in omega arith
 
 pub release-top-requires : goal.release-top-requires
-release-top-requires c = record { a_in_bounds = (take_known c.loop-top.invariant c.loop-top-test.true, c.requires.first_in_bounds.1); safe = take_asks c.loop-top.invariant c.loop-top-test.true; }
+release-top-requires c = record { a_in_bounds = (take_known c.loop-top.invariant c.loop-top-test.true, c.requires.first_in_bounds.1); safe = take_asks c.loop-top.invariant c.loop-top-test.true }
 
 pub loop-top-smaller : goal.loop-top-smaller
 loop-top-smaller c = let h = take-place c.loop-top.invariant c.loop-top-test.true in omega arith

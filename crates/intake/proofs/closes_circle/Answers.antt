@@ -13,9 +13,12 @@ pub slice_bounds-leaves_out-end-4 : goal.slice_bounds-leaves_out-end-4
 slice_bounds-leaves_out-end-4 c = sym (length-take-le c.args.z.activities (replicate 128 0) c.requires.1.activities.1)
 
 pub leaves_out-requires : goal.leaves_out-requires
-leaves_out-requires c = record { tabled = c.requires; room = record {
-        unlinked = refl;
-        counted = length-take-le c.args.z.activities (replicate 128 0) c.requires.1.activities.1;
-        roomy = c.requires.1.activities.1;
-        ordered = length-take-le c.args.z.activities (replicate 128 0) c.requires.1.activities.1;
-      }; }
+leaves_out-requires c = record {
+  tabled = c.requires;
+  room = record {
+    unlinked = refl;
+    counted = length-take-le c.args.z.activities (replicate 128 0) c.requires.1.activities.1;
+    roomy = c.requires.1.activities.1;
+    ordered = length-take-le c.args.z.activities (replicate 128 0) c.requires.1.activities.1;
+  };
+}

@@ -14,11 +14,11 @@ returns-then-not-all_fit c = unfit c.args.n c.args.machines c.args.cells.now c.a
 
 pub count_lines-requires : goal.count_lines-requires
 count_lines-requires c = (
-      omega (arith, c.clear.auto.list, c.requires.0),
-      c.requires.2,
-      fit_of c.args.n c.args.machines c.args.cells.now c.args.lens (sym c.all_fit.ensures ∙ c.if-not-all_fit.false),
-      λ a. ap (λ (l : List ℕ). get_or l a 0) c.clear.ensures ∙ zeros_at (length c.args.seen.now) a,
-    )
+  omega (arith, c.clear.auto.list, c.requires.0),
+  c.requires.2,
+  fit_of c.args.n c.args.machines c.args.cells.now c.args.lens (sym c.all_fit.ensures ∙ c.if-not-all_fit.false),
+  λ a. ap (λ (l : List ℕ). get_or l a 0) c.clear.ensures ∙ zeros_at (length c.args.seen.now) a,
+)
 
 pub returns-then-not-count_lines : goal.returns-then-not-count_lines
 returns-then-not-count_lines c = unknown c.args.n c.args.machines c.args.cells.now c.args.lens (sym c.all_fit.ensures ∙ c.if-not-all_fit.false)

@@ -22,10 +22,10 @@ join-requires c = let f = rw c.in-Reassign.is at c.requires.2 in
     (c.leave.ensures.holds, j.0, j.1, j.2)
 
 pub returns-in-Swap : goal.returns-in-Swap
-returns-in-Swap c = record { result_after = rw c.in-Swap.is c.swap_on.ensures; fit = c.requires.1; }
+returns-in-Swap c = record { result_after = rw c.in-Swap.is c.swap_on.ensures; fit = c.requires.1 }
 
 pub returns-in-Shift : goal.returns-in-Shift
-returns-in-Shift c = record { result_after = rw c.in-Shift.is c.shift_on.ensures; fit = c.requires.1; }
+returns-in-Shift c = record { result_after = rw c.in-Shift.is c.shift_on.ensures; fit = c.requires.1 }
 
 pub returns-in-Reassign : goal.returns-in-Reassign
-returns-in-Reassign c = record { result_after = rw c.in-Reassign.is (c.join.ensures.lens_after ∙ ap (λ (l : Lines). joined l c.in-Reassign.new c.in-Reassign.to c.in-Reassign.a) c.leave.ensures.lens_after); fit = c.join.ensures.holds.fit; }
+returns-in-Reassign c = record { result_after = rw c.in-Reassign.is (c.join.ensures.lens_after ∙ ap (λ (l : Lines). joined l c.in-Reassign.new c.in-Reassign.to c.in-Reassign.a) c.leave.ensures.lens_after); fit = c.join.ensures.holds.fit }

@@ -30,8 +30,11 @@ put_in-requires c = let f = c.requires.0.fit c.args.machine in
 pub returns : goal.returns
 returns c = let f = c.requires.0.fit c.args.machine in
     let l = line_long c.args.cells.now c.args.lens.now c.args.machine in
-    record { lens_after = joined_put c.requires.0 c.args.machine c.requires.1 c.args.at c.args.a _ (128 * c.args.machine + (get_or c.args.lens.now c.args.machine 0 + 1)) refl (omega (arith, c.requires)) c.put_in.ensures; holds = record {
+    record {
+      lens_after = joined_put c.requires.0 c.args.machine c.requires.1 c.args.at c.args.a _ (128 * c.args.machine + (get_or c.args.lens.now c.args.machine 0 + 1)) refl (omega (arith, c.requires)) c.put_in.ensures;
+      holds = record {
         roomy = still_roomy c.requires.0 c.args.machine c.requires.1 (128 * c.args.machine + (get_or c.args.lens.now c.args.machine 0 + 1)) c.put_in.new.line (omega arith) (omega (arith, c.requires)) c.put_in.auto.line;
         sixteen = length-set c.args.lens.now c.args.machine (get_or c.args.lens.now c.args.machine 0 + 1) ∙ c.requires.0.sixteen;
         fit = fit_set c.args.lens.now c.args.machine (get_or c.args.lens.now c.args.machine 0 + 1) (omega (arith, c.requires.0.sixteen, c.requires)) c.requires.0.fit (omega (arith, c.requires));
-      }; }
+      };
+    }

@@ -30,8 +30,11 @@ overflow_sub-lens c = let l = line_long c.args.cells.now c.args.lens.now c.args.
 pub returns : goal.returns
 returns c = let f = c.requires.0.fit c.args.machine in
     let l = line_long c.args.cells.now c.args.lens.now c.args.machine in
-    record { lens_after = left_put c.requires.0 c.args.machine c.requires.1 c.args.at _ (128 * c.args.machine + get_or c.args.lens.now c.args.machine 0) _ refl (omega arith) c.requires.2 c.take_out.ensures; holds = record {
+    record {
+      lens_after = left_put c.requires.0 c.args.machine c.requires.1 c.args.at _ (128 * c.args.machine + get_or c.args.lens.now c.args.machine 0) _ refl (omega arith) c.requires.2 c.take_out.ensures;
+      holds = record {
         roomy = still_roomy c.requires.0 c.args.machine c.requires.1 (128 * c.args.machine + get_or c.args.lens.now c.args.machine 0) c.take_out.new.line (omega arith) (omega (arith, c.requires)) c.take_out.auto.line;
         sixteen = length-set c.args.lens.now c.args.machine (get_or c.args.lens.now c.args.machine 0 - 1) ∙ c.requires.0.sixteen;
         fit = fit_set c.args.lens.now c.args.machine (get_or c.args.lens.now c.args.machine 0 - 1) (omega (arith, c.requires.0.sixteen, c.requires)) c.requires.0.fit (omega (arith, c.requires));
-      }; }
+      };
+    }

@@ -16,9 +16,9 @@ last_to_end-a-requires c = (omega (arith, c.requires.0.walkable.some, c.requires
 
 pub loop-b-init : goal.loop-b-init
 loop-b-init c = let k = begin c.requires.0.walkable c.args.path.now c.last_to_end-a.result c.requires.1 c.last_to_end-a.ensures in (
-      record { room = omega (arith, c.requires.0.walkable.some, c.requires.0.walkable.ordered, c.requires.1); within = omega arith; sized = refl; kept = refl; standing = omega (arith, k.known, c.requires.0.walkable.shown.standing) },
-      λ p lines v. begin v c.args.path.now c.last_to_end-a.result c.requires.1 c.last_to_end-a.ensures,
-    )
+  record { room = omega (arith, c.requires.0.walkable.some, c.requires.0.walkable.ordered, c.requires.1); within = omega arith; sized = refl; kept = refl; standing = omega (arith, k.known, c.requires.0.walkable.shown.standing) },
+  λ p lines v. begin v c.args.path.now c.last_to_end-a.result c.requires.1 c.last_to_end-a.ensures,
+)
 
 pub before_of-task-requires : goal.before_of-task-requires
 before_of-task-requires c = let k = c.loop-b.invariant.1 c.requires.0.problem c.requires.0.lines c.requires.0.walkable in
@@ -54,7 +54,7 @@ bounds-ways-to c = let k = c.loop-b.invariant.1 c.requires.0.problem c.requires.
 
 pub back_of-requires : goal.back_of-requires
 back_of-requires c = let k = c.loop-b.invariant.1 c.requires.0.problem c.requires.0.lines c.requires.0.walkable in
-    record { backed = (backed c.requires.0.walkable c.loop-b.a k.known, task_below c.requires.0.walkable c.loop-b.a k.known (c.before_of-task.ensures c.requires.0.problem c.requires.0.walkable.shown.tabled k.known) (length c.args.ends.now) c.requires.0.walkable.ended, c.requires.0.walkable.early, c.wide-way.ensures.1); a_in_bounds = (omega (arith, k.known, c.requires.0.walkable.started), c.requires.0.walkable.shown.linked ∙ sym c.requires.0.walkable.ended, omega (arith, k.known, c.requires.0.walkable.shown.linked)); }
+    record { backed = (backed c.requires.0.walkable c.loop-b.a k.known, task_below c.requires.0.walkable c.loop-b.a k.known (c.before_of-task.ensures c.requires.0.problem c.requires.0.walkable.shown.tabled k.known) (length c.args.ends.now) c.requires.0.walkable.ended, c.requires.0.walkable.early, c.wide-way.ensures.1); a_in_bounds = (omega (arith, k.known, c.requires.0.walkable.started), c.requires.0.walkable.shown.linked ∙ sym c.requires.0.walkable.ended, omega (arith, k.known, c.requires.0.walkable.shown.linked)) }
 
 pub loop-b-preserved : goal.loop-b-preserved
 loop-b-preserved c = let k = c.loop-b.invariant.1 c.requires.0.problem c.requires.0.lines c.requires.0.walkable in
@@ -79,7 +79,10 @@ shape_of-path c = simp length-set c.loop-b.invariant.0.sized
 
 pub returns : goal.returns
 returns c = let k = c.loop-b.invariant.1 c.requires.0.problem c.requires.0.lines c.requires.0.walkable in
-    record { path_after = λ p lines v.
+    record {
+      path_after = λ p lines v.
           let q = c.loop-b.invariant.1 p lines v in
           stops v q c.loop-b.invariant.0.within
-          (sym c.in_default.is ∙ back_is v c.loop-b.a q.known (c.before_of-task.ensures p v.shown.tabled q.known) c.machine_before-from.ensures c.wide-way.ensures.0 (c.back_of.ensures p v.shown.tabled q.known v.shown.few)); upper_bound = (omega (arith, c.loop-b.invariant.0.room, c.loop-b.invariant.0.within, c.loop-b.invariant.0.sized), kept_below c.args.path.now c.loop-b.path c.loop-b.at c.loop-b.a c.loop-b.invariant.0.kept); }
+          (sym c.in_default.is ∙ back_is v c.loop-b.a q.known (c.before_of-task.ensures p v.shown.tabled q.known) c.machine_before-from.ensures c.wide-way.ensures.0 (c.back_of.ensures p v.shown.tabled q.known v.shown.few));
+      upper_bound = (omega (arith, c.loop-b.invariant.0.room, c.loop-b.invariant.0.within, c.loop-b.invariant.0.sized), kept_below c.args.path.now c.loop-b.path c.loop-b.at c.loop-b.a c.loop-b.invariant.0.kept);
+    }

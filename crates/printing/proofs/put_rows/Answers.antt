@@ -15,4 +15,4 @@ pub shape_of-line : goal.shape_of-line
 shape_of-line c = sized c.loop-i.invariant
 
 pub returns : goal.returns
-returns c = record { text = (all-rows c.loop-i.invariant c.loop-i-test.false).0; short = (all-rows c.loop-i.invariant c.loop-i-test.false).1; }
+returns c = record { text = (all-rows c.loop-i.invariant c.loop-i-test.false).0; short = (all-rows c.loop-i.invariant c.loop-i-test.false).1 }

@@ -3,4 +3,4 @@ use Rattle.writing.proofs.WritingLaws.{put_then}
 use Rattle.printing.proofs.put_seat.Goals as goal
 
 pub returns : goal.returns
-returns c = record { text = put_then (omega (arith, c.requires, c.put_number-next.ensures.short, c.put_number.ensures.short)) c.put_number-next.ensures.text c.put_number.ensures.text; short = omega (arith, c.put_number-next.ensures.short, c.put_number.ensures.short); }
+returns c = record { text = put_then (omega (arith, c.requires, c.put_number-next.ensures.short, c.put_number.ensures.short)) c.put_number-next.ensures.text c.put_number.ensures.text; short = omega (arith, c.put_number-next.ensures.short, c.put_number.ensures.short) }

@@ -5,4 +5,4 @@ use Rattle.printing.proofs.put_sheet.Goals as goal
 
 pub returns : goal.returns
 unfolding sheet_text
-returns c = record { text = put_then (omega (arith, c.requires.activities_in_bounds, c.put_head-next.ensures.short, c.put_rows.ensures.short)) c.put_head-next.ensures.text c.put_rows.ensures.text; short = omega (arith, c.put_head-next.ensures.short, c.put_rows.ensures.short); }
+returns c = record { text = put_then (omega (arith, c.requires.activities_in_bounds, c.put_head-next.ensures.short, c.put_rows.ensures.short)) c.put_head-next.ensures.text c.put_rows.ensures.text; short = omega (arith, c.put_head-next.ensures.short, c.put_rows.ensures.short) }

@@ -23,12 +23,12 @@ returns-in-Refused c = c.refuse.ensures
 
 pub loop-i-preserved : goal.loop-i-preserved
 loop-i-preserved c = (
-      omega arith,
-      within_next _ _ c.read_section-onward.ensures c.in-Next.is (read_section_within _ _ _ _),
-      c.loop-i.invariant.2
-          ∙ sections_step _ _ sections _ _ _ _ c.loop-i-test.true c.section_at-row.ensures c.read_section-onward.ensures c.in-Next.is
-          (section_known (words c.args.s.now) c.section_at-row.result.keep c.loop-i.k c.loop-i.at c.word.ensures c.learn.ensures c.after_section-k.ensures),
-    )
+  omega arith,
+  within_next _ _ c.read_section-onward.ensures c.in-Next.is (read_section_within _ _ _ _),
+  c.loop-i.invariant.2
+      ∙ sections_step _ _ sections _ _ _ _ c.loop-i-test.true c.section_at-row.ensures c.read_section-onward.ensures c.in-Next.is
+      (section_known (words c.args.s.now) c.section_at-row.result.keep c.loop-i.k c.loop-i.at c.word.ensures c.learn.ensures c.after_section-k.ensures),
+)
 
 pub overflow_mul-end : goal.overflow_mul-end
 overflow_mul-end c = omega (arith, length-words c.args.s.now)

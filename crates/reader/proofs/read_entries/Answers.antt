@@ -33,11 +33,11 @@ returns-in-Refused c = sym (c.loop-done.invariant.3
 
 pub loop-done-preserved : goal.loop-done-preserved
 loop-done-preserved c = let q = rw c.width_of-w.ensures at c.entry_rule-number.ensures in (
-      omega arith,
-      within_next _ _ c.read_entry-onward.ensures c.in-Next.is (read_fields_within _ _ _ _ _ _ c.loop-done.invariant.1),
-      entries_risen (words c.args.s.now) c.args.row.rule (width_of c.args.row c.args.k) c.loop-done.done c.loop-done.p _ _ (fields_move _ _ _ _ _ _ _ (sym c.read_entry-onward.ensures ∙ c.in-Next.is)) q c.if-number-ne0.false c.loop-done.invariant.2,
-      c.loop-done.invariant.3 ∙ entries_step _ _ _ _ _ _ c.loop-done-test.true c.read_entry-onward.ensures c.in-Next.is q ∙ rw (eq-eqb _ _ c.if-number-ne0.false),
-    )
+  omega arith,
+  within_next _ _ c.read_entry-onward.ensures c.in-Next.is (read_fields_within _ _ _ _ _ _ c.loop-done.invariant.1),
+  entries_risen (words c.args.s.now) c.args.row.rule (width_of c.args.row c.args.k) c.loop-done.done c.loop-done.p _ _ (fields_move _ _ _ _ _ _ _ (sym c.read_entry-onward.ensures ∙ c.in-Next.is)) q c.if-number-ne0.false c.loop-done.invariant.2,
+  c.loop-done.invariant.3 ∙ entries_step _ _ _ _ _ _ c.loop-done-test.true c.read_entry-onward.ensures c.in-Next.is q ∙ rw (eq-eqb _ _ c.if-number-ne0.false),
+)
 
 pub returns : goal.returns
 returns c = sym (c.loop-done.invariant.3 ∙ entries_end _ _ _ _ _ _ c.loop-done-test.false)

@@ -14,10 +14,10 @@ returns-in-Refused c = rw (← c.width_of-n.ensures) (sym (c.loop-f.invariant.2
 
 pub loop-f-preserved : goal.loop-f-preserved
 loop-f-preserved c = (
-      omega arith,
-      within_next _ _ c.read_word-onward.ensures c.in-Next.is (read_word_within _ _ _ _),
-      c.loop-f.invariant.2 ∙ fields_step _ _ _ _ _ _ c.loop-f-test.true c.kind_at.ensures c.read_word-onward.ensures c.in-Next.is,
-    )
+  omega arith,
+  within_next _ _ c.read_word-onward.ensures c.in-Next.is (read_word_within _ _ _ _),
+  c.loop-f.invariant.2 ∙ fields_step _ _ _ _ _ _ c.loop-f-test.true c.kind_at.ensures c.read_word-onward.ensures c.in-Next.is,
+)
 
 pub returns : goal.returns
 returns c = rw (← c.width_of-n.ensures) (sym (c.loop-f.invariant.2 ∙ fields_end _ _ _ _ _ _ c.loop-f-test.false))

@@ -25,4 +25,4 @@ pub loop-i-preserved : goal.loop-i-preserved
 loop-i-preserved c = (omega arith, c.offer_activity-best.ensures.count_bound, λ p w. offering_again (c.loop-i.invariant.2 p w) c.loop-i-test.true (c.offer_activity-best.ensures.result_value p (one_of c.loop-i.i c.loop-i-test.true w)) c.offer_activity-best.ensures.count_bound)
 
 pub returns : goal.returns
-returns c = record { result_value = λ p w. all-offered (reassignments p (lines_in c.args.cells.now c.args.lens.now) (unordered c.args.starts.now c.args.ends.now) c.args.tail.now c.args.path.now) c.none-best.ensures.result_value (offering_end (c.loop-i.invariant.2 p w) c.loop-i-test.false); count_bound = c.loop-i.invariant.1; }
+returns c = record { result_value = λ p w. all-offered (reassignments p (lines_in c.args.cells.now c.args.lens.now) (unordered c.args.starts.now c.args.ends.now) c.args.tail.now c.args.path.now) c.none-best.ensures.result_value (offering_end (c.loop-i.invariant.2 p w) c.loop-i-test.false); count_bound = c.loop-i.invariant.1 }

@@ -22,11 +22,11 @@ returns-then-machines-ge2 c p t e k = let two : leb 2 (length (p.candidates c.lo
 
 pub loop-a-preserved : goal.loop-a-preserved
 loop-a-preserved c = (
-      omega arith,
-      λ p t e k.
-          let one : leb 2 (length (p.candidates c.loop-a.a)) ≡ false = rw (← c.candidates_of-machines.ensures p t (omega arith) k) (lt-leb _ _ c.if-machines-ge2.false) in
-          sym (any_next (λ x. leb 2 (length (p.candidates x))) (c.args.n - c.loop-a.a) (c.args.n - (c.loop-a.a + 1)) c.loop-a.a (omega arith) one) ∙ c.loop-a.invariant.1 p t e k,
-    )
+  omega arith,
+  λ p t e k.
+      let one : leb 2 (length (p.candidates c.loop-a.a)) ≡ false = rw (← c.candidates_of-machines.ensures p t (omega arith) k) (lt-leb _ _ c.if-machines-ge2.false) in
+      sym (any_next (λ x. leb 2 (length (p.candidates x))) (c.args.n - c.loop-a.a) (c.args.n - (c.loop-a.a + 1)) c.loop-a.a (omega arith) one) ∙ c.loop-a.invariant.1 p t e k,
+)
 
 pub returns : goal.returns
 returns c p t e k = sym (any_none (λ x. leb 2 (length (p.candidates x))) (c.args.n - c.loop-a.a) c.loop-a.a (omega (arith, c.loop-a-test.false))) ∙ c.loop-a.invariant.1 p t e k

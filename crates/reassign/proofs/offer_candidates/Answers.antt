@@ -36,14 +36,14 @@ own_span-time-requires c = (omega (arith, c.requires.some_able.0.able.known, c.r
 
 pub room_on-room-requires : goal.room_on-room-requires
 room_on-room-requires c = let m = machine_in_lem c.loop-i.i c.requires.some_able.0.able c.loop-i-test.true in
-    record { holds = (c.requires.some_able.1, omega (arith, m, c.requires.some_able.0.able.sixteen), c.requires.some_able.2 (get_or c.args.candidates.now c.loop-i.i 0)); reckoned = (c.requires.reckoned.0, c.requires.reckoned.1, omega (arith, c.own_span-time.ensures c.requires.some_able.0.problem c.requires.some_able.0.able.tabled c.requires.some_able.0.able.known m, c.requires.some_able.0.able.short (get_or c.args.candidates.now c.loop-i.i 0) m)); }
+    record { holds = (c.requires.some_able.1, omega (arith, m, c.requires.some_able.0.able.sixteen), c.requires.some_able.2 (get_or c.args.candidates.now c.loop-i.i 0)); reckoned = (c.requires.reckoned.0, c.requires.reckoned.1, omega (arith, c.own_span-time.ensures c.requires.some_able.0.problem c.requires.some_able.0.able.tabled c.requires.some_able.0.able.known m, c.requires.some_able.0.able.short (get_or c.args.candidates.now c.loop-i.i 0) m)) }
 
 pub loop-i-preserved-in_default : goal.loop-i-preserved-in_default
 loop-i-preserved-in_default c = let none = sym c.room_on-room.ensures ∙ c.in_default.is in (
-      omega arith,
-      c.loop-i.invariant.1,
-      λ p able. offering_none (c.loop-i.invariant.2 p able) c.loop-i-test.true (none_there p (lines_in c.args.cells.now c.args.lens.now) (unordered c.args.starts.now c.args.ends.now) c.args.tail.now c.args.leaving (get_or c.args.candidates.now c.loop-i.i 0) c.if-to-leaving.false (c.own_span-time.ensures p able.tabled able.known (machine_in_lem c.loop-i.i able c.loop-i-test.true)) none),
-    )
+  omega arith,
+  c.loop-i.invariant.1,
+  λ p able. offering_none (c.loop-i.invariant.2 p able) c.loop-i-test.true (none_there p (lines_in c.args.cells.now c.args.lens.now) (unordered c.args.starts.now c.args.ends.now) c.args.tail.now c.args.leaving (get_or c.args.candidates.now c.loop-i.i 0) c.if-to-leaving.false (c.own_span-time.ensures p able.tabled able.known (machine_in_lem c.loop-i.i able c.loop-i-test.true)) none),
+)
 
 pub loop-i-preserved-then-not-enters : goal.loop-i-preserved-then-not-enters
 loop-i-preserved-then-not-enters c = let one = sym c.room_on-room.ensures ∙ c.in-At.is in
@@ -68,4 +68,4 @@ loop-i-preserved c = let one = sym c.room_on-room.ensures ∙ c.in-At.is in
     )
 
 pub returns : goal.returns
-returns c = record { result_value = λ p able. offering_end (c.loop-i.invariant.2 p able) c.loop-i-test.false; count_bound = c.loop-i.invariant.1; }
+returns c = record { result_value = λ p able. offering_end (c.loop-i.invariant.2 p able) c.loop-i-test.false; count_bound = c.loop-i.invariant.1 }

@@ -37,7 +37,7 @@ later_rule-rule-requires c = let known : subject_of c.args.z.activities c.args.z
     let meets : Meets c.args.z.activities c.args.z.machines c.args.rows.now (c.loop-i.i) c.in-Known.a c.in-Known.m = known_meets c.args.z.activities c.args.z.machines c.args.rows.now (c.loop-i.i) known in
     let able : c.in-Known.m < 16 = omega (arith, meets.able, c.requires.placed.0.machines) in
     let k = meets in
-    record { placed = c.requires.placed; a_lt_activities = (k.known, k.able, omega (arith, before_within c.loop-i.invariant c.in-Known.m able), k.whole, c.requires.first_rows); }
+    record { placed = c.requires.placed; a_lt_activities = (k.known, k.able, omega (arith, before_within c.loop-i.invariant c.in-Known.m able), k.whole, c.requires.first_rows) }
 
 pub returns-then-rule-ne0 : goal.returns-then-rule-ne0
 returns-then-rule-ne0 c = let inside : c.loop-i.i < rows_in c.args.rows.now = omega (arith, c.loop-i-test.true, c.row_count-count.ensures) in

@@ -34,7 +34,7 @@ put_sheet-requires c = let a = length-take-le c.args.n c.args.activities.now c.r
     let e = length-take-le c.args.n c.args.ends.now c.requires.n_in_bounds.3 in
     let u = length-take-le c.args.n c.args.setups.now c.requires.n_in_bounds.4 in
     let room : 16384 ≤ length c.args.out.now = c.requires.n_bound.1 in
-    record { activities_in_bounds = omega (arith, a, c.requires.n_bound.0, room); machines_len = (m ∙ sym a, s ∙ sym a, e ∙ sym a, u ∙ sym a); }
+    record { activities_in_bounds = omega (arith, a, c.requires.n_bound.0, room); machines_len = (m ∙ sym a, s ∙ sym a, e ∙ sym a, u ∙ sym a) }
 
 -- src/lib.rt:15:1
 pub returns : goal.returns

@@ -18,7 +18,7 @@ put_first-requires c = let o = decoded_plan better_placement c.args.s.now in
     let told = sym c.in-Rows.is ∙ c.decode-answer.ensures.answer in
     let room : 16384 ≤ length c.args.out.now = c.requires in
     let within = sheet_room o _ _ _ _ _ told (decoded_columned better_placement c.args.s.now) c.decode-answer.ensures.rows in
-    record { n_bound = (let few = within.0 in omega (arith, few, c.activities-2-1.given), room); n_in_bounds = within; }
+    record { n_bound = (let few = within.0 in omega (arith, few, c.activities-2-1.given), room); n_in_bounds = within }
 
 -- src/lib.rt:43:1
 pub returns-in-Refused : goal.returns-in-Refused

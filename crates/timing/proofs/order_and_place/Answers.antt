@@ -29,11 +29,16 @@ take_and_place-requires c = let p = problem_of (words c.args.s.now) c.args.z in
     let k : 128 + c.args.z.activities - 128 ≡ c.args.z.activities = omega arith in
     let lines = lines_in c.args.cells.now c.args.lens.now in
     let counted = c.add_line_waits.auto.counts ∙ c.requires.space.0.counted in
-    record { placed = (c.requires.placed.0, c.requires.placed.1, c.requires.placed.2, λ e. sym c.word-own.ensures ∙ eqb-true _ _ e, c.requires.placed.3); well_formed = (c.requires.well_formed.0, c.requires.well_formed.2); stacked = record {
-            linked = order_asked p g c.requires.placed.1 c.requires.placed.2 lines c.requires.well_formed.0 c.requires.well_formed.1 refl k i j c.add_line_waits.ensures;
-            ordered = order_answered p g c.requires.placed.1 c.requires.placed.2 lines c.requires.well_formed.0 c.requires.well_formed.1 refl k i j c.add_line_waits.ensures refl;
-            free = c.stack_free-first.ensures.0;
-            over = omega (arith, c.stack_free-first.ensures.1, counted);
-            roomy = omega (arith, c.stack_free-first.auto.stack, c.requires.space.0.roomy);
-            narrow = omega (arith, c.stack_free-first.auto.stack, c.requires.space.0.narrow);
-          }; order_len = (c.requires.space.0.ordered, c.requires.space.1, c.requires.space.2); }
+    record {
+      placed = (c.requires.placed.0, c.requires.placed.1, c.requires.placed.2, λ e. sym c.word-own.ensures ∙ eqb-true _ _ e, c.requires.placed.3);
+      well_formed = (c.requires.well_formed.0, c.requires.well_formed.2);
+      stacked = record {
+        linked = order_asked p g c.requires.placed.1 c.requires.placed.2 lines c.requires.well_formed.0 c.requires.well_formed.1 refl k i j c.add_line_waits.ensures;
+        ordered = order_answered p g c.requires.placed.1 c.requires.placed.2 lines c.requires.well_formed.0 c.requires.well_formed.1 refl k i j c.add_line_waits.ensures refl;
+        free = c.stack_free-first.ensures.0;
+        over = omega (arith, c.stack_free-first.ensures.1, counted);
+        roomy = omega (arith, c.stack_free-first.auto.stack, c.requires.space.0.roomy);
+        narrow = omega (arith, c.stack_free-first.auto.stack, c.requires.space.0.narrow);
+      };
+      order_len = (c.requires.space.0.ordered, c.requires.space.1, c.requires.space.2);
+    }

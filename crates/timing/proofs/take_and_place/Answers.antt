@@ -12,13 +12,12 @@ use Rattle.timing.proofs.OrderTables.{stacked_safe, on_order, whole_order, whole
 use Rattle.timing.proofs.take_and_place.Goals as goal
 
 pub loop-top-init : goal.loop-top-init
-loop-top-init c = let p = problem_of (words c.args.s.now) c.args.z in
-    (
-      take_begin (omega (arith, c.requires.stacked.over, c.requires.stacked.roomy)) (stacked_safe c.requires.stacked _ c.requires.order_len.0),
-      c.requires.order_len.1,
-      c.requires.order_len.2,
-      none_placed p (lines_in c.args.cells.now c.args.lens.now) _ _,
-    )
+loop-top-init c = let p = problem_of (words c.args.s.now) c.args.z in (
+  take_begin (omega (arith, c.requires.stacked.over, c.requires.stacked.roomy)) (stacked_safe c.requires.stacked _ c.requires.order_len.0),
+  c.requires.order_len.1,
+  c.requires.order_len.2,
+  none_placed p (lines_in c.args.cells.now c.args.lens.now) _ _,
+)
 
 pub overflow_sub-top : goal.overflow_sub-top
 overflow_sub-top c = omega (arith, c.loop-top-test.true)
@@ -40,10 +39,10 @@ place-requires c = let p = problem_of (words c.args.s.now) c.args.z in
     let g = genes_of (words c.args.s.now) c.args.z in
     let lines = lines_in c.args.cells.now c.args.lens.now in
     let next = on_order c.requires.stacked _ c.requires.order_len.0 (take_next c.loop-top.invariant.0 c.loop-top-test.true) in
-    record { placed = c.requires.placed; placeable = placeable p g c.requires.placed.1 lines c.requires.well_formed.0 c.requires.well_formed.1 c.loop-top.invariant.1 c.loop-top.invariant.2 next.1 c.loop-top.invariant.3 next.0; }
+    record { placed = c.requires.placed; placeable = placeable p g c.requires.placed.1 lines c.requires.well_formed.0 c.requires.well_formed.1 c.loop-top.invariant.1 c.loop-top.invariant.2 next.1 c.loop-top.invariant.3 next.0 }
 
 pub release-top-requires : goal.release-top-requires
-release-top-requires c = record { a_in_bounds = (take_known c.loop-top.invariant.0 c.loop-top-test.true, rw c.requires.stacked.linked.shaped.lined c.requires.stacked.linked.shaped); safe = take_asks c.loop-top.invariant.0 c.loop-top-test.true; }
+release-top-requires c = record { a_in_bounds = (take_known c.loop-top.invariant.0 c.loop-top-test.true, rw c.requires.stacked.linked.shaped.lined c.requires.stacked.linked.shaped); safe = take_asks c.loop-top.invariant.0 c.loop-top-test.true }
 
 pub loop-top-smaller : goal.loop-top-smaller
 loop-top-smaller c = let h = take-place c.loop-top.invariant.0 c.loop-top-test.true in omega arith
@@ -52,8 +51,7 @@ pub loop-top-preserved : goal.loop-top-preserved
 loop-top-preserved c = let p = problem_of (words c.args.s.now) c.args.z in
     let g = genes_of (words c.args.s.now) c.args.z in
     let lines = lines_in c.args.cells.now c.args.lens.now in
-    let next = on_order c.requires.stacked _ c.requires.order_len.0 (take_next c.loop-top.invariant.0 c.loop-top-test.true) in
-    (
+    let next = on_order c.requires.stacked _ c.requires.order_len.0 (take_next c.loop-top.invariant.0 c.loop-top-test.true) in (
       take_again c.loop-top.invariant.0 c.loop-top-test.true c.release-top.ensures.0 c.release-top.auto.counts c.release-top.auto.stack c.release-top.ensures.1,
       c.place.auto.starts ∙ c.loop-top.invariant.1,
       c.place.auto.ends ∙ c.loop-top.invariant.2,
@@ -81,4 +79,4 @@ returns c = let p = problem_of (words c.args.s.now) c.args.z in
     let lines = lines_in c.args.cells.now c.args.lens.now in
     let e = take_end c.loop-top.invariant.0 c.loop-top-test.false in
     let o = whole_order c.requires.stacked _ c.requires.order_len.0 e.0 in
-    record { order_after = (o, omega (arith, e.1, c.requires.order_len.0)); placement = λ all. all_placed_lem p g c.requires.placed.1 lines c.requires.well_formed.0 c.requires.well_formed.1 (whole_taken p lines _ _ o (omega (arith, c.loop-top.invariant.0.orderly, c.requires.order_len.0)) all (omega (arith, e.1, c.requires.order_len.0))) all c.loop-top.invariant.1 c.loop-top.invariant.2 c.loop-top.invariant.3; }
+    record { order_after = (o, omega (arith, e.1, c.requires.order_len.0)); placement = λ all. all_placed_lem p g c.requires.placed.1 lines c.requires.well_formed.0 c.requires.well_formed.1 (whole_taken p lines _ _ o (omega (arith, c.loop-top.invariant.0.orderly, c.requires.order_len.0)) all (omega (arith, e.1, c.requires.order_len.0))) all c.loop-top.invariant.1 c.loop-top.invariant.2 c.loop-top.invariant.3 }

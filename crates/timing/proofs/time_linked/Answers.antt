@@ -13,4 +13,4 @@ pub returns : goal.returns
 returns c = let p = problem_of (words c.args.s.now) c.args.z in
     let lines = lines_in c.args.cells.now c.args.lens.now in
     let sized = c.order_and_place-taken.auto.order ∙ c.requires.space.0.ordered in
-    record { answer = agrees_when p lines _ c.order_and_place-taken.ensures.order_after.0 sized c.order_and_place-taken.ensures.order_after.1; timed = λ e. timed_when p lines _ c.order_and_place-taken.ensures.order_after.0 sized c.order_and_place-taken.ensures.placement e; }
+    record { answer = agrees_when p lines _ c.order_and_place-taken.ensures.order_after.0 sized c.order_and_place-taken.ensures.order_after.1; timed = λ e. timed_when p lines _ c.order_and_place-taken.ensures.order_after.0 sized c.order_and_place-taken.ensures.placement e }

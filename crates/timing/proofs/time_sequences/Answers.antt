@@ -17,11 +17,15 @@ pub time_linked-requires : goal.time_linked-requires
 time_linked-requires c = let before = c.link_lines.auto.before ∙ c.requires.cells_len.2.length_before in
     let after = c.link_lines.auto.after ∙ c.requires.cells_len.2.length-after in
     let machines = c.link_lines.auto.machines ∙ c.requires.cells_len.2.length-machines in
-    record { placed = c.requires.placed; well_formed = (c.requires.cells_len.1, neighbours c.link_lines.ensures before after, seated c.link_lines.ensures before machines); space = (
-          record { counted = length-take-le c.args.z.activities (replicate 128 0) c.requires.placed.1.activities.1; roomy = c.requires.placed.1.activities.1; narrow = omega arith; ordered = c.requires.cells_len.2.length_order },
-          c.requires.cells_len.2.length_starts,
-          c.requires.cells_len.2.length-ends,
-        ); }
+    record {
+      placed = c.requires.placed;
+      well_formed = (c.requires.cells_len.1, neighbours c.link_lines.ensures before after, seated c.link_lines.ensures before machines);
+      space = (
+        record { counted = length-take-le c.args.z.activities (replicate 128 0) c.requires.placed.1.activities.1; roomy = c.requires.placed.1.activities.1; narrow = omega arith; ordered = c.requires.cells_len.2.length_order },
+        c.requires.cells_len.2.length_starts,
+        c.requires.cells_len.2.length-ends,
+      );
+    }
 
 pub returns : goal.returns
-returns c = record { answer = c.time_linked.ensures.answer; linked = c.link_lines.ensures; timed = c.time_linked.ensures.timed; }
+returns c = record { answer = c.time_linked.ensures.answer; linked = c.link_lines.ensures; timed = c.time_linked.ensures.timed }

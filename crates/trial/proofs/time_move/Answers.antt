@@ -24,7 +24,7 @@ relink-requires c = let sixteen : length c.args.lens ≡ 16 = c.well_formed.1.1.
 pub time_linked-possible-requires : goal.time_linked-possible-requires
 time_linked-possible-requires c = let sixteen : length c.args.lens ≡ 16 = c.well_formed.1.1.1.1.1.1.0.1.0.1 in
     let held = c.relink.ensures (lines_in c.args.cells.now c.args.lens) (more_machines 16 c.requires.ready.0.accepted.machines.1 c.requires.ready.2) c.requires.ready.3.fits c.apply-moved.ensures.result_after c.requires.rooms.1 in
-    record { placed = (c.requires.ready.0.placed, c.requires.ready.0.accepted, c.requires.ready.0.tabled, c.requires.ready.0.transports); well_formed = (moved-well_formed c.args.cells.now c.args.lens c.apply-moved.new.cells c.apply-moved.result c.args.m sixteen c.requires.ready.2 c.requires.ready.3 c.apply-moved.ensures.result_after, neighbours held (c.relink.auto.before ∙ c.requires.rooms.0.length_before) (c.relink.auto.after ∙ c.requires.rooms.0.length-after), seated held (c.relink.auto.before ∙ c.requires.rooms.0.length_before) (c.relink.auto.machines ∙ c.requires.rooms.0.length-machines)); space = (record { counted = c.requires.rooms.2; roomy = omega (arith, c.requires.rooms.3); narrow = omega (arith, c.requires.rooms.3, c.requires.ready.0.accepted.activities.1); ordered = c.requires.rooms.0.length_order }, c.requires.rooms.0.length_starts, c.requires.rooms.0.length-ends); }
+    record { placed = (c.requires.ready.0.placed, c.requires.ready.0.accepted, c.requires.ready.0.tabled, c.requires.ready.0.transports); well_formed = (moved-well_formed c.args.cells.now c.args.lens c.apply-moved.new.cells c.apply-moved.result c.args.m sixteen c.requires.ready.2 c.requires.ready.3 c.apply-moved.ensures.result_after, neighbours held (c.relink.auto.before ∙ c.requires.rooms.0.length_before) (c.relink.auto.after ∙ c.requires.rooms.0.length-after), seated held (c.relink.auto.before ∙ c.requires.rooms.0.length_before) (c.relink.auto.machines ∙ c.requires.rooms.0.length-machines)); space = (record { counted = c.requires.rooms.2; roomy = omega (arith, c.requires.rooms.3); narrow = omega (arith, c.requires.rooms.3, c.requires.ready.0.accepted.activities.1); ordered = c.requires.rooms.0.length_order }, c.requires.rooms.0.length_starts, c.requires.rooms.0.length-ends) }
 
 pub apply-requires : goal.apply-requires
 apply-requires c = let sixteen : length c.args.lens ≡ 16 = c.well_formed.1.1.1.1.1.1.0.1.0.1 in
@@ -76,4 +76,4 @@ pub returns : goal.returns
 returns c = let sixteen : length c.args.lens ≡ 16 = c.well_formed.1.1.1.1.1.1.0.1.0.1 in
     let same = back_again c.args.cells.now c.args.lens c.apply-moved.new.cells c.apply-moved.result c.args.m c.reverse-back.result sixteen c.requires.ready.3.fits c.apply-moved.ensures.result_after c.reverse-back.ensures c.apply.new.cells c.apply.result c.apply.ensures.result_after in
     let held = c.relink-2.ensures (lines_in c.apply-moved.new.cells c.apply-moved.result) (more_machines 16 c.requires.ready.0.accepted.machines.1 (moved-well_formed c.args.cells.now c.args.lens c.apply-moved.new.cells c.apply-moved.result c.args.m sixteen c.requires.ready.2 c.requires.ready.3 c.apply-moved.ensures.result_after)) (back_fits c.args.cells.now c.args.lens c.apply-moved.new.cells c.apply-moved.result c.args.m c.reverse-back.result sixteen c.requires.ready.3.fits c.apply-moved.ensures.result_after c.reverse-back.ensures (fit_of c.args.cells.now c.args.lens c.requires.ready.2)) (back-applied c.args.cells.now c.args.lens c.apply-moved.new.cells c.apply-moved.result c.args.m c.reverse-back.result sixteen c.requires.ready.3.fits c.apply-moved.ensures.result_after c.reverse-back.ensures c.apply.new.cells c.apply.result c.apply.ensures.result_after) (c.relink.ensures (lines_in c.args.cells.now c.args.lens) (more_machines 16 c.requires.ready.0.accepted.machines.1 c.requires.ready.2) c.requires.ready.3.fits c.apply-moved.ensures.result_after c.requires.rooms.1) in
-    record { answer = c.time_linked-possible.ensures.answer ∙ ap (λ (l : Lines). not (contradicts (problem_of (words c.args.s.now) c.args.z) l)) c.apply-moved.ensures.result_after; timed = (λ t. timed_on c.apply-moved.ensures.result_after (c.time_linked-possible.ensures.timed t)); lines = same; linked = held_on same held; }
+    record { answer = c.time_linked-possible.ensures.answer ∙ ap (λ (l : Lines). not (contradicts (problem_of (words c.args.s.now) c.args.z) l)) c.apply-moved.ensures.result_after; timed = (λ t. timed_on c.apply-moved.ensures.result_after (c.time_linked-possible.ensures.timed t)); lines = same; linked = held_on same held }

@@ -28,7 +28,7 @@ is_forbidden-forbidden-requires c = let sixteen : length c.args.lens ≡ 16 = c.
 
 pub try_move-kept-requires : goal.try_move-kept-requires
 try_move-kept-requires c = let allowed : Allowed c.args.z.machines (lines_in c.loop-k.cells c.args.lens) c.at-rated.result.made = allowed_now (lines_in c.loop-k.cells c.args.lens) c.at-rated.result c.loop-k.invariant.same c.requires.ready.3 c.loop-k-test.true (c.at-rated.ensures c.at-rated.result) in
-    record { ready = (c.requires.ready.0, c.loop-k.invariant.long, subst (λ (l : Lines). WellFormed c.args.z.activities c.args.z.machines l) (sym c.loop-k.invariant.same) c.requires.ready.2, allowed); rooms = (c.loop-k.invariant.rooms, held_on (sym c.loop-k.invariant.same) c.loop-k.invariant.linked, c.loop-k.invariant.counted, c.loop-k.invariant.stacked); kept = (c.loop-k.invariant.kept, holding_on (sym c.loop-k.invariant.same) c.loop-k.invariant.holding); }
+    record { ready = (c.requires.ready.0, c.loop-k.invariant.long, subst (λ (l : Lines). WellFormed c.args.z.activities c.args.z.machines l) (sym c.loop-k.invariant.same) c.requires.ready.2, allowed); rooms = (c.loop-k.invariant.rooms, held_on (sym c.loop-k.invariant.same) c.loop-k.invariant.linked, c.loop-k.invariant.counted, c.loop-k.invariant.stacked); kept = (c.loop-k.invariant.kept, holding_on (sym c.loop-k.invariant.same) c.loop-k.invariant.holding) }
 
 pub overflow_add-k : goal.overflow_add-k
 overflow_add-k c = omega (arith, c.loop-k-test.true, c.requires.ready.3.few)
@@ -82,4 +82,4 @@ pub shape_of-done : goal.shape_of-done
 shape_of-done c = c.loop-k.invariant.kept.length-ends ∙ sym c.requires.kept.0.length-ends
 
 pub returns : goal.returns
-returns c = record { answer = all-tried (problem_of (words c.args.s.now) c.args.z) (lines_in c.args.cells.now c.args.lens) (forbidden c.args.step c.args.pairs c.args.left (lines_in c.args.cells.now c.args.lens)) c.args.best c.args.three c.args.held c.loop-k.kept c.loop-k.k c.requires.ready.3.few c.loop-k-test.false c.loop-k.invariant.rest; holding = c.loop-k.invariant.holding; lines = c.loop-k.invariant.same; linked = c.loop-k.invariant.linked; }
+returns c = record { answer = all-tried (problem_of (words c.args.s.now) c.args.z) (lines_in c.args.cells.now c.args.lens) (forbidden c.args.step c.args.pairs c.args.left (lines_in c.args.cells.now c.args.lens)) c.args.best c.args.three c.args.held c.loop-k.kept c.loop-k.k c.requires.ready.3.few c.loop-k-test.false c.loop-k.invariant.rest; holding = c.loop-k.invariant.holding; lines = c.loop-k.invariant.same; linked = c.loop-k.invariant.linked }

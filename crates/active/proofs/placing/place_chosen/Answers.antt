@@ -12,7 +12,7 @@ pub loop-seat-init : goal.loop-seat-init
 loop-seat-init c = place_begin (problem_of (words c.args.s.now) c.args.z) (genes_of (words c.args.s.now) c.args.z) c.requires.begun
 
 pub choose-requires : goal.choose-requires
-choose-requires c = record { placed = c.requires.placed; chosen = place_asks c.requires.placed.1 c.loop-seat.invariant c.requires.begun.ranked c.requires.begun.manned; }
+choose-requires c = record { placed = c.requires.placed; chosen = place_asks c.requires.placed.1 c.loop-seat.invariant c.requires.begun.ranked c.requires.begun.manned }
 
 pub shape_of-order-in_default : goal.shape_of-order-in_default
 shape_of-order-in_default c = c.loop-seat.invariant.sized
@@ -40,7 +40,7 @@ shape_of-kept-in_default c = omega (arith, c.choose.ensures.kept.sized, c.requir
 
 pub returns-in_default : goal.returns-in_default
 returns-in_default c = let e = place_end c.requires.placed.1 c.loop-seat.invariant c.choose.ensures.choice c.choose.ensures.settled c.in_default.is in
-    record { board = e; order = place-listed c.requires.placed.1 c.loop-seat.invariant c.choose.ensures.choice c.choose.ensures.settled e refl; }
+    record { board = e; order = place-listed c.requires.placed.1 c.loop-seat.invariant c.choose.ensures.choice c.choose.ensures.settled e refl }
 
 pub owner-task-requires : goal.owner-task-requires
 owner-task-requires c = let k = fine c.requires.placed.1 c.loop-seat.invariant c.choose.ensures.choice c.choose.ensures.settled c.in-Sits.seat c.in-Sits.is in

@@ -71,7 +71,7 @@ pub waits-requires : goal.waits-requires
 waits-requires c = let k = c.tasks.invariant.keeping.fronts.last c.tasks.t c.tasks-test.true in
     let n = task_within c.requires.placed.1 c.tasks.t c.tasks-test.true in
     let here : c.loop-a.a < c.args.z.activities = omega (arith, c.loop-a-test.true, k, n) in
-    record { accepted = (c.requires.placed.1, c.requires.placed.2, here, omega (arith, c.tasks-test.true, c.requires.placed.1.tasks.1)); settled_len = (omega (arith, c.loop-a.invariant.passing.sized, c.tasks.invariant.flags, c.requires.settled_len.0), length-set c.loop-a.kept c.tasks.t c.loop-a.a ∙ ap length c.loop-a.invariant.keeps ∙ c.tasks.invariant.keeping.sized); a_value = free_if_held c.requires.placed.1 c.tasks.invariant c.tasks-test.true c.requires.manned.0 c.loop-a.invariant here; }
+    record { accepted = (c.requires.placed.1, c.requires.placed.2, here, omega (arith, c.tasks-test.true, c.requires.placed.1.tasks.1)); settled_len = (omega (arith, c.loop-a.invariant.passing.sized, c.tasks.invariant.flags, c.requires.settled_len.0), length-set c.loop-a.kept c.tasks.t c.loop-a.a ∙ ap length c.loop-a.invariant.keeps ∙ c.tasks.invariant.keeping.sized); a_value = free_if_held c.requires.placed.1 c.tasks.invariant c.tasks-test.true c.requires.manned.0 c.loop-a.invariant here }
 
 pub tasks-smaller-then-waits : goal.tasks-smaller-then-waits
 tasks-smaller-then-waits c = omega (arith, c.tasks-test.true)
@@ -82,7 +82,7 @@ tasks-preserved-then-waits c = left-waiting c.requires.placed.1 c.tasks.invarian
 pub keep_seat-requires : goal.keep_seat-requires
 keep_seat-requires c = let k = c.tasks.invariant.keeping.fronts.last c.tasks.t c.tasks-test.true in
     let n = task_within c.requires.placed.1 c.tasks.t c.tasks-test.true in
-    record { placed = c.requires.placed; a_lt_activities = (omega (arith, c.loop-a-test.true, k, n), c.requires.manned.1, length-set c.loop-a.kept c.tasks.t c.loop-a.a ∙ ap length c.loop-a.invariant.keeps ∙ c.tasks.invariant.keeping.sized, omega (arith, c.tasks-test.true, c.requires.placed.1.tasks.1)); }
+    record { placed = c.requires.placed; a_lt_activities = (omega (arith, c.loop-a-test.true, k, n), c.requires.manned.1, length-set c.loop-a.kept c.tasks.t c.loop-a.a ∙ ap length c.loop-a.invariant.keeps ∙ c.tasks.invariant.keeping.sized, omega (arith, c.tasks-test.true, c.requires.placed.1.tasks.1)) }
 
 pub offset_bounds-offered-found : goal.offset_bounds-offered-found
 offset_bounds-offered-found c = omega (arith, c.tasks-test.true, c.requires.placed.1.tasks.1, c.tasks.invariant.fewer, c.loop-a.invariant.finds, c.tasks.invariant.cells, ap length c.loop-a.invariant.offers, c.requires.manned.2)

@@ -15,7 +15,7 @@ pub loop-i-init : goal.loop-i-init
 loop-i-init c = begin (problem_of (words c.args.s.now) c.args.z) (lines_in c.args.cells.now c.args.lens) c.args.times c.requires.rooms
 
 pub time_sequences-requires : goal.time_sequences-requires
-time_sequences-requires c = record { placed = (c.requires.taken.0.placed, c.requires.taken.0.accepted, c.requires.taken.0.tabled, c.transports-ways.ensures); cells_len = (c.requires.taken.1, c.requires.taken.2, c.loop-i.invariant.rooms); }
+time_sequences-requires c = record { placed = (c.requires.taken.0.placed, c.requires.taken.0.accepted, c.requires.taken.0.tabled, c.transports-ways.ensures); cells_len = (c.requires.taken.1, c.requires.taken.2, c.loop-i.invariant.rooms) }
 
 pub shape_of-before-then-not-time_sequences : goal.shape_of-before-then-not-time_sequences
 shape_of-before-then-not-time_sequences c = c.time_sequences.auto.before ∙ c.loop-i.invariant.rooms.length_before ∙ sym c.requires.rooms.length_before
@@ -49,11 +49,11 @@ loop-i-smaller c = omega arith
 
 pub loop-i-preserved : goal.loop-i-preserved
 loop-i-preserved c = record {
-      within = omega arith;
-      rooms = record { length_before = c.time_sequences.auto.before ∙ c.loop-i.invariant.rooms.length_before; length-after = c.time_sequences.auto.after ∙ c.loop-i.invariant.rooms.length-after; length-machines = c.time_sequences.auto.machines ∙ c.loop-i.invariant.rooms.length-machines; length-places = c.time_sequences.auto.places ∙ c.loop-i.invariant.rooms.length-places; length_order = c.time_sequences.auto.order ∙ c.loop-i.invariant.rooms.length_order; length_starts = c.time_sequences.auto.starts ∙ c.loop-i.invariant.rooms.length_starts; length-ends = c.time_sequences.auto.ends ∙ c.loop-i.invariant.rooms.length-ends };
-      agreed = λ _. not_not (contradicts (problem_of (words c.args.s.now) c.args.z) (lines_in c.args.cells.now c.args.lens)) c.time_sequences.ensures.answer c.if-not-time_sequences.false;
-      timed = λ _. c.time_sequences.ensures.timed c.if-not-time_sequences.false;
-    }
+  within = omega arith;
+  rooms = record { length_before = c.time_sequences.auto.before ∙ c.loop-i.invariant.rooms.length_before; length-after = c.time_sequences.auto.after ∙ c.loop-i.invariant.rooms.length-after; length-machines = c.time_sequences.auto.machines ∙ c.loop-i.invariant.rooms.length-machines; length-places = c.time_sequences.auto.places ∙ c.loop-i.invariant.rooms.length-places; length_order = c.time_sequences.auto.order ∙ c.loop-i.invariant.rooms.length_order; length_starts = c.time_sequences.auto.starts ∙ c.loop-i.invariant.rooms.length_starts; length-ends = c.time_sequences.auto.ends ∙ c.loop-i.invariant.rooms.length-ends };
+  agreed = λ _. not_not (contradicts (problem_of (words c.args.s.now) c.args.z) (lines_in c.args.cells.now c.args.lens)) c.time_sequences.ensures.answer c.if-not-time_sequences.false;
+  timed = λ _. c.time_sequences.ensures.timed c.if-not-time_sequences.false;
+}
 
 pub shape_of-before-then-times-eq0 : goal.shape_of-before-then-times-eq0
 shape_of-before-then-times-eq0 c = c.loop-i.invariant.rooms.length_before ∙ sym c.requires.rooms.length_before
@@ -80,7 +80,7 @@ pub returns-then-times-eq0 : goal.returns-then-times-eq0
 returns-then-times-eq0 c = never_begun (problem_of (words c.args.s.now) c.args.z) (lines_in c.args.cells.now c.args.lens) c.args.times c.if-times-eq0.true
 
 pub sums_of-sums-requires : goal.sums_of-sums-requires
-sums_of-sums-requires c = record { placed = (c.requires.taken.0.placed, c.requires.taken.0.accepted); ended = ended (problem_of (words c.args.s.now) c.args.z) (genes_of (words c.args.s.now) c.args.z) c.requires.taken.0.accepted (lines_in c.args.cells.now c.args.lens) c.requires.taken.2 (c.loop-i.invariant.timed (omega arith)); }
+sums_of-sums-requires c = record { placed = (c.requires.taken.0.placed, c.requires.taken.0.accepted); ended = ended (problem_of (words c.args.s.now) c.args.z) (genes_of (words c.args.s.now) c.args.z) c.requires.taken.0.accepted (lines_in c.args.cells.now c.args.lens) c.requires.taken.2 (c.loop-i.invariant.timed (omega arith)) }
 
 pub shape_of-before : goal.shape_of-before
 shape_of-before c = c.loop-i.invariant.rooms.length_before ∙ sym c.requires.rooms.length_before

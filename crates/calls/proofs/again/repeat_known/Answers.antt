@@ -35,7 +35,7 @@ pub slice_bounds-repeat_in-end-7 : goal.slice_bounds-repeat_in-end-7
 slice_bounds-repeat_in-end-7 c = sym (lent c.args.z.activities c.requires.0.accepted.activities.1)
 
 pub repeat_in-requires : goal.repeat_in-requires
-repeat_in-requires c = record { taken = (c.requires.0, c.requires.1, test_sound (problem_of (words c.args.s.now) c.args.z).n (problem_of (words c.args.s.now) c.args.z).machines (lines_in c.args.cells.now c.args.lens) (sym c.well_formed-2.ensures ∙ c.if-not-well_formed.false)); rooms = record { length_before = length-take-le c.args.z.activities c.well_formed-2.new.seen (omega (arith, c.well_formed-2.auto.seen, c.requires.0.accepted.activities.1)); length-after = lent c.args.z.activities c.requires.0.accepted.activities.1; length-machines = lent c.args.z.activities c.requires.0.accepted.activities.1; length-places = lent c.args.z.activities c.requires.0.accepted.activities.1; length_order = lent c.args.z.activities c.requires.0.accepted.activities.1; length_starts = lent c.args.z.activities c.requires.0.accepted.activities.1; length-ends = lent c.args.z.activities c.requires.0.accepted.activities.1 }; }
+repeat_in-requires c = record { taken = (c.requires.0, c.requires.1, test_sound (problem_of (words c.args.s.now) c.args.z).n (problem_of (words c.args.s.now) c.args.z).machines (lines_in c.args.cells.now c.args.lens) (sym c.well_formed-2.ensures ∙ c.if-not-well_formed.false)); rooms = record { length_before = length-take-le c.args.z.activities c.well_formed-2.new.seen (omega (arith, c.well_formed-2.auto.seen, c.requires.0.accepted.activities.1)); length-after = lent c.args.z.activities c.requires.0.accepted.activities.1; length-machines = lent c.args.z.activities c.requires.0.accepted.activities.1; length-places = lent c.args.z.activities c.requires.0.accepted.activities.1; length_order = lent c.args.z.activities c.requires.0.accepted.activities.1; length_starts = lent c.args.z.activities c.requires.0.accepted.activities.1; length-ends = lent c.args.z.activities c.requires.0.accepted.activities.1 } }
 
 pub returns : goal.returns
 returns c = c.repeat_in.ensures ∙ fit (problem_of (words c.args.s.now) c.args.z) (lines_in c.args.cells.now c.args.lens) (well_formed (problem_of (words c.args.s.now) c.args.z).n (problem_of (words c.args.s.now) c.args.z).machines (lines_in c.args.cells.now c.args.lens)) c.args.times (sym c.well_formed-2.ensures ∙ c.if-not-well_formed.false)

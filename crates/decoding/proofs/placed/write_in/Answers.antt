@@ -20,10 +20,10 @@ slice_bounds-write_board-end-2 c = rows_long c.place_by-count.ensures.order
 pub write_board-requires : goal.write_board-requires
 write_board-requires c = let p = problem_of (words c.args.s.now) c.args.z in
     let g = genes_of (words c.args.s.now) c.args.z in
-    record { taken = (c.requires.taken.0, laid_by c.args.which p g c.requires.taken.0.accepted c.place_by-count.ensures.order c.place_by-count.ensures.times); roomy = c.requires.roomy; }
+    record { taken = (c.requires.taken.0, laid_by c.args.which p g c.requires.taken.0.accepted c.place_by-count.ensures.order c.place_by-count.ensures.times); roomy = c.requires.roomy }
 
 pub returns : goal.returns
 returns c = let p = problem_of (words c.args.s.now) c.args.z in
     let g = genes_of (words c.args.s.now) c.args.z in
     let e = laid_sheet p g (rule_of c.args.which p g) c.place_by-count.ensures.order.listed c.place_by-count.ensures.times in
-    record { answer = c.write_board.ensures.answer ∙ ap answer_of e; rows = leaves_as e c.write_board.ensures.rows; }
+    record { answer = c.write_board.ensures.answer ∙ ap answer_of e; rows = leaves_as e c.write_board.ensures.rows }

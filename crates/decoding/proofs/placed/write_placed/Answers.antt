@@ -14,4 +14,4 @@ pub slice_bounds-write_in-end-4 : goal.slice_bounds-write_in-end-4
 slice_bounds-write_in-end-4 c = sym (lent c.args.z.activities c.requires.taken.accepted.activities.1)
 
 pub write_in-requires : goal.write_in-requires
-write_in-requires c = record { taken = (c.requires.taken, zeros-roomy c.args.z.activities c.requires.taken.accepted.activities.1); roomy = c.requires.roomy; }
+write_in-requires c = record { taken = (c.requires.taken, zeros-roomy c.args.z.activities c.requires.taken.accepted.activities.1); roomy = c.requires.roomy }

@@ -99,8 +99,7 @@ loop-t-preserved c = let steps-are : c.row-of.result.steps ≡ (problem_of (word
     let late_is : c.late_in-late.result ≡ lateness (problem_of (words c.args.s.now) c.args.z) (λ a. get_or c.args.ends.now a 0) c.loop-t.t = c.late_in-late.ensures
     ∙ row_late (words c.args.s.now) c.args.z c.loop-t.t (c.args.z.at.tasks + 3 + 5 * c.loop-t.t) c.row-of.result c.row-of.ensures refl
     (get_or c.args.ends.now (c.loop-t.first + c.row-of.result.steps - 1) 0)
-    ∙ ap (λ (x : ℕ). tardiness_of x ((problem_of (words c.args.s.now) c.args.z).deadline c.loop-t.t)) done-is in
-    (
+    ∙ ap (λ (x : ℕ). tardiness_of x ((problem_of (words c.args.s.now) c.args.z).deadline c.loop-t.t)) done-is in (
       omega (arith, c.loop-t-test.true),
       omega (arith, c.requires.placed.1.next_first c.loop-t.t, c.loop-t.invariant.1, steps-are),
       latest_next _ c.loop-t.invariant.2 done-is c.later-makespan.ensures,

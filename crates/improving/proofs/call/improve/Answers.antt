@@ -12,11 +12,11 @@ use Rattle.improving.proofs.call.improve.Goals as goal
 
 pub returns-then-not-is_roomy : goal.returns-then-not-is_roomy
 returns-then-not-is_roomy c = let e = six (improved_plan c.args.s.now) (roomy c.args.cells.now c.args.tasks.now c.args.machines.now) (sym c.is_roomy.ensures ∙ c.if-not-is_roomy.true) in
-    record { answer = ap answer_of e; tasks = ap (λ (o : Outcome). tasks_left o c.args.tasks.now) e; machines = ap (λ (o : Outcome). machines_left o c.args.machines.now) e; }
+    record { answer = ap answer_of e; tasks = ap (λ (o : Outcome). tasks_left o c.args.tasks.now) e; machines = ap (λ (o : Outcome). machines_left o c.args.machines.now) e }
 
 pub returns-in-No : goal.returns-in-No
 returns-in-No c = let e = not_taken c.args.s.now c.take_in-r.ensures.answer c.in-No.is ∙ roomy_on (improved_plan c.args.s.now) (roomy c.args.cells.now c.args.tasks.now c.args.machines.now) (sym c.is_roomy.ensures ∙ c.if-not-is_roomy.false) in
-    record { answer = ap answer_of e; tasks = ap (λ (o : Outcome). tasks_left o c.args.tasks.now) e; machines = ap (λ (o : Outcome). machines_left o c.args.machines.now) e; }
+    record { answer = ap answer_of e; tasks = ap (λ (o : Outcome). tasks_left o c.args.tasks.now) e; machines = ap (λ (o : Outcome). machines_left o c.args.machines.now) e }
 
 pub slice_bounds-improve_genes-end-2 : goal.slice_bounds-improve_genes-end-2
 slice_bounds-improve_genes-end-2 c = (roomy_means c.args.cells.now c.args.tasks.now c.args.machines.now (sym c.is_roomy.ensures ∙ c.if-not-is_roomy.false)).0
@@ -29,4 +29,4 @@ improve_genes-requires c = (taken_asks c.args.s.now [] c.take_in-r.ensures.answe
 
 pub returns : goal.returns
 returns c = let e = ap (λ z. came (improve (problem_of (words c.args.s.now) z) (genes_of (words c.args.s.now) z))) c.layout_of-z.ensures ∙ taken c.args.s.now c.take_in-r.ensures.answer c.in_default.is ∙ roomy_on (improved_plan c.args.s.now) (roomy c.args.cells.now c.args.tasks.now c.args.machines.now) (sym c.is_roomy.ensures ∙ c.if-not-is_roomy.false) in
-    record { answer = c.improve_genes.ensures.answer ∙ ap answer_of e; tasks = c.improve_genes.ensures.tasks ∙ ap (λ (o : Outcome). tasks_left o c.args.tasks.now) e; machines = c.improve_genes.ensures.machines ∙ ap (λ (o : Outcome). machines_left o c.args.machines.now) e; }
+    record { answer = c.improve_genes.ensures.answer ∙ ap answer_of e; tasks = c.improve_genes.ensures.tasks ∙ ap (λ (o : Outcome). tasks_left o c.args.tasks.now) e; machines = c.improve_genes.ensures.machines ∙ ap (λ (o : Outcome). machines_left o c.args.machines.now) e }

@@ -15,15 +15,15 @@ use Rattle.improving.proofs.call.improve_genes.Goals as goal
 
 pub returns-then-limit-eq0 : goal.returns-then-limit-eq0
 returns-then-limit-eq0 c = let e = ten (problem_of (words c.args.s.now) c.args.z) (genes_of (words c.args.s.now) c.args.z) (eqb (problem_of (words c.args.s.now) c.args.z).limit 0) (ap (λ (k : ℕ). eqb k 0) (sym c.limit.ensures) ∙ eq-eqb c.limit.result 0 c.if-limit-eq0.true) in
-    record { answer = ap told e; tasks = ap (λ (i : Improved). tasks_over i c.args.tasks.now) e; machines = ap (λ (i : Improved). machines_over i c.args.machines.now) e; }
+    record { answer = ap told e; tasks = ap (λ (i : Improved). tasks_over i c.args.tasks.now) e; machines = ap (λ (i : Improved). machines_over i c.args.machines.now) e }
 
 pub returns-then-not-lot : goal.returns-then-not-lot
 returns-then-not-lot c = let e = eleven (problem_of (words c.args.s.now) c.args.z) (genes_of (words c.args.s.now) c.args.z) (Indexed.misses (problem_of (words c.args.s.now) c.args.z) (genes_of (words c.args.s.now) c.args.z)) (not_false (Indexed.misses (problem_of (words c.args.s.now) c.args.z) (genes_of (words c.args.s.now) c.args.z)) c.deal_lines-lot.ensures.whole (denied _ c.if-not-lot.true)) ∙ not_ten (problem_of (words c.args.s.now) c.args.z) (genes_of (words c.args.s.now) c.args.z) (eqb (problem_of (words c.args.s.now) c.args.z).limit 0) (ap (λ (k : ℕ). eqb k 0) (sym c.limit.ensures) ∙ ne_eqb c.limit.result 0 c.if-limit-eq0.false) in
-    record { answer = ap told e; tasks = ap (λ (i : Improved). tasks_over i c.args.tasks.now) e; machines = ap (λ (i : Improved). machines_over i c.args.machines.now) e; }
+    record { answer = ap told e; tasks = ap (λ (i : Improved). tasks_over i c.args.tasks.now) e; machines = ap (λ (i : Improved). machines_over i c.args.machines.now) e }
 
 pub improve_lines-requires : goal.improve_lines-requires
-improve_lines-requires c = record { taken = (c.requires.0, c.deal_lines-lot.auto.cells ∙ c.requires.1, rw (c.deal_lines-lot.ensures.held (granted _ c.if-not-lot.false)) (genes-well_formed c.requires.0.accepted (not_not (Indexed.misses (problem_of (words c.args.s.now) c.args.z) (genes_of (words c.args.s.now) c.args.z)) c.deal_lines-lot.ensures.whole (granted _ c.if-not-lot.false)))); in_bounds = (c.requires.2, c.requires.3); }
+improve_lines-requires c = record { taken = (c.requires.0, c.deal_lines-lot.auto.cells ∙ c.requires.1, rw (c.deal_lines-lot.ensures.held (granted _ c.if-not-lot.false)) (genes-well_formed c.requires.0.accepted (not_not (Indexed.misses (problem_of (words c.args.s.now) c.args.z) (genes_of (words c.args.s.now) c.args.z)) c.deal_lines-lot.ensures.whole (granted _ c.if-not-lot.false)))); in_bounds = (c.requires.2, c.requires.3) }
 
 pub returns : goal.returns
 returns c = let e = not_eleven (problem_of (words c.args.s.now) c.args.z) (genes_of (words c.args.s.now) c.args.z) (Indexed.misses (problem_of (words c.args.s.now) c.args.z) (genes_of (words c.args.s.now) c.args.z)) (not_not (Indexed.misses (problem_of (words c.args.s.now) c.args.z) (genes_of (words c.args.s.now) c.args.z)) c.deal_lines-lot.ensures.whole (granted _ c.if-not-lot.false)) (c.deal_lines-lot.ensures.held (granted _ c.if-not-lot.false)) ∙ not_ten (problem_of (words c.args.s.now) c.args.z) (genes_of (words c.args.s.now) c.args.z) (eqb (problem_of (words c.args.s.now) c.args.z).limit 0) (ap (λ (k : ℕ). eqb k 0) (sym c.limit.ensures) ∙ ne_eqb c.limit.result 0 c.if-limit-eq0.false) in
-    record { answer = c.improve_lines.ensures.answer ∙ ap told e; tasks = c.improve_lines.ensures.tasks ∙ ap (λ (i : Improved). tasks_over i c.args.tasks.now) e; machines = c.improve_lines.ensures.machines ∙ ap (λ (i : Improved). machines_over i c.args.machines.now) e; }
+    record { answer = c.improve_lines.ensures.answer ∙ ap told e; tasks = c.improve_lines.ensures.tasks ∙ ap (λ (i : Improved). tasks_over i c.args.tasks.now) e; machines = c.improve_lines.ensures.machines ∙ ap (λ (i : Improved). machines_over i c.args.machines.now) e }

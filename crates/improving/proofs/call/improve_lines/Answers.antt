@@ -24,4 +24,4 @@ pub slice_bounds-improve_in-end-7 : goal.slice_bounds-improve_in-end-7
 slice_bounds-improve_in-end-7 c = sym (lent c.args.z.activities c.requires.taken.0.accepted.activities.1)
 
 pub improve_in-requires : goal.improve_in-requires
-improve_in-requires c = record { taken = c.requires.taken; rooms = (record { length_before = lent c.args.z.activities c.requires.taken.0.accepted.activities.1; length-after = lent c.args.z.activities c.requires.taken.0.accepted.activities.1; length-machines = lent c.args.z.activities c.requires.taken.0.accepted.activities.1; length-places = lent c.args.z.activities c.requires.taken.0.accepted.activities.1; length_order = lent c.args.z.activities c.requires.taken.0.accepted.activities.1; length_starts = lent c.args.z.activities c.requires.taken.0.accepted.activities.1; length-ends = lent c.args.z.activities c.requires.taken.0.accepted.activities.1 }, c.requires.in_bounds.0, c.requires.in_bounds.1); }
+improve_in-requires c = record { taken = c.requires.taken; rooms = (record { length_before = lent c.args.z.activities c.requires.taken.0.accepted.activities.1; length-after = lent c.args.z.activities c.requires.taken.0.accepted.activities.1; length-machines = lent c.args.z.activities c.requires.taken.0.accepted.activities.1; length-places = lent c.args.z.activities c.requires.taken.0.accepted.activities.1; length_order = lent c.args.z.activities c.requires.taken.0.accepted.activities.1; length_starts = lent c.args.z.activities c.requires.taken.0.accepted.activities.1; length-ends = lent c.args.z.activities c.requires.taken.0.accepted.activities.1 }, c.requires.in_bounds.0, c.requires.in_bounds.1) }

@@ -27,15 +27,18 @@ pub place_all-requires : goal.place_all-requires
 place_all-requires c = let p = problem_of (words c.args.s.now) c.args.z in
     let g = genes_of (words c.args.s.now) c.args.z in
     let settled : length (take c.args.z.activities (replicate {A = ℕ} 128 0)) ≡ c.args.z.activities = length-take-le {A = ℕ} c.args.z.activities (replicate 128 0) (omega (arith, c.requires.placed.0.activities)) in
-    record { placed = c.requires.placed; given = record {
+    record {
+      placed = c.requires.placed;
+      given = record {
         known = rw c.ready_activities-given.ensures.0.listed (ready_below p (indexed p g) (indexed_below c.requires.placed.1));
         once = λ x. rw c.ready_activities-given.ensures.0.listed (ready_once p (indexed p g) (indexed_below c.requires.placed.1) c.requires.placed.1.activities.1 x);
         roomy = omega (arith, ap length c.ready_activities-given.ensures.0.listed, c.ready_activities-given.ensures.0.whole, c.ready_activities-given.ensures.1, c.requires.rooms.ordered);
         sized = record { starts = c.requires.rooms.begun; ends = c.requires.rooms.ended; setups = c.requires.rooms.prepared; lines = refl; steps = refl; settled = settled };
-      }; }
+      };
+    }
 
 pub returns : goal.returns
 returns c = let p = problem_of (words c.args.s.now) c.args.z in
     let g = genes_of (words c.args.s.now) c.args.z in
     let e = c.place_all.ensures.board ∙ ap (λ (x : List ℕ). sit_all p g x (empty_board p.n)) c.ready_activities-given.ensures.0.listed in
-    record { order = rw c.ready_activities-given.ensures.0.listed at c.place_all.ensures.order; times = record { begun = ap (λ (b : Board). b.starts) e; ended = ap (λ (b : Board). b.ends) e; prepared = ap (λ (b : Board). b.setups) e }; }
+    record { order = rw c.ready_activities-given.ensures.0.listed at c.place_all.ensures.order; times = record { begun = ap (λ (b : Board). b.starts) e; ended = ap (λ (b : Board). b.ends) e; prepared = ap (λ (b : Board). b.setups) e } }

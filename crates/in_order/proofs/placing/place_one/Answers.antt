@@ -24,7 +24,7 @@ last_placed-line-requires c = let p = problem_of (words c.args.s.now) c.args.z i
 pub seat_after-seat-requires : goal.seat_after-seat-requires
 seat_after-seat-requires c = let p = problem_of (words c.args.s.now) c.args.z in
     let g = genes_of (words c.args.s.now) c.args.z in
-    record { placed = c.requires.placed; a_lt_activities = (c.requires.coming.0.here, c.requires.coming.0.there, line_below p g c.requires.placed.1 c.requires.coming.0 c.last_placed-line.ensures, step_below p g c.requires.placed.1 c.requires.coming.0, way_small p g c.requires.placed.1 c.requires.coming.0); ends_len = (c.requires.coming.0.sound.sized.ends, ends_small p g c.requires.placed.1 c.requires.coming.0); }
+    record { placed = c.requires.placed; a_lt_activities = (c.requires.coming.0.here, c.requires.coming.0.there, line_below p g c.requires.placed.1 c.requires.coming.0 c.last_placed-line.ensures, step_below p g c.requires.placed.1 c.requires.coming.0, way_small p g c.requires.placed.1 c.requires.coming.0); ends_len = (c.requires.coming.0.sound.sized.ends, ends_small p g c.requires.placed.1 c.requires.coming.0) }
 
 pub sit-requires : goal.sit-requires
 sit-requires c = let p = problem_of (words c.args.s.now) c.args.z in
@@ -35,4 +35,4 @@ pub returns : goal.returns
 returns c = let p = problem_of (words c.args.s.now) c.args.z in
     let g = genes_of (words c.args.s.now) c.args.z in
     let b = board_of c.args.count c.args.order.now c.args.starts.now c.args.ends.now c.args.setups.now c.args.lines.now c.args.steps.now c.args.settled.now in
-    record { board = c.sit.ensures.board p (task_is p g c.requires.placed.1 c.requires.coming.0 c.last_placed-line.ensures c.seat_after-seat.ensures (c.owner-task.ensures p c.requires.placed.2 c.requires.coming.0.here)) ∙ ap (λ (x : Seat). sit p x b) (seat_by_rule p g c.requires.placed.1 c.requires.coming.0 c.last_placed-line.ensures c.seat_after-seat.ensures); order = c.sit.ensures.order ∙ ap (λ (x : ℕ). set c.args.order.now c.args.count x) (activity_is p g c.requires.placed.1 c.requires.coming.0 c.last_placed-line.ensures c.seat_after-seat.ensures); }
+    record { board = c.sit.ensures.board p (task_is p g c.requires.placed.1 c.requires.coming.0 c.last_placed-line.ensures c.seat_after-seat.ensures (c.owner-task.ensures p c.requires.placed.2 c.requires.coming.0.here)) ∙ ap (λ (x : Seat). sit p x b) (seat_by_rule p g c.requires.placed.1 c.requires.coming.0 c.last_placed-line.ensures c.seat_after-seat.ensures); order = c.sit.ensures.order ∙ ap (λ (x : ℕ). set c.args.order.now c.args.count x) (activity_is p g c.requires.placed.1 c.requires.coming.0 c.last_placed-line.ensures c.seat_after-seat.ensures) }

@@ -124,7 +124,7 @@ place_one-requires c = let p = problem_of (words c.args.s.now) c.args.z in
     let from : c.machine_from-from.result < p.machines = rw c.machine_from-from.ensures (from_known p g c.requires.placed.1 (assigned_to g) (λ q k. assigned_known c.requires.placed.1 q) c.loop-i.invariant.sound (p.task_of a) es) in
     let ew = way_is p g c.requires.placed.1 c.requires.placed.3 c.machine_from-from.result c.in-On.m from there in
     let coming = coming_next p g c.loop-i.invariant.sound known there (unsettled c.loop-i.invariant c.loop-i-test.true) es c.machine_from-from.ensures ew in
-    record { placed = (c.requires.placed.0, c.requires.placed.1, c.requires.placed.2); coming = (coming, has_room c.loop-i.invariant c.loop-i-test.true); }
+    record { placed = (c.requires.placed.0, c.requires.placed.1, c.requires.placed.2); coming = (coming, has_room c.loop-i.invariant c.loop-i-test.true) }
 
 pub overflow_add-count : goal.overflow_add-count
 overflow_add-count c = let p = problem_of (words c.args.s.now) c.args.z in
@@ -190,4 +190,4 @@ shape_of-settled c = let p = problem_of (words c.args.s.now) c.args.z in
 
 pub returns : goal.returns
 returns c = let e = seat_end c.loop-i.invariant c.loop-i-test.false in
-    record { board = e; order = seat-listed c.loop-i.invariant e refl; }
+    record { board = e; order = seat-listed c.loop-i.invariant e refl }

@@ -22,8 +22,7 @@ ready_order-requires c = let p = problem_of (words c.args.s.now) c.args.z in
 
 pub returns : goal.returns
 returns c = let p = problem_of (words c.args.s.now) c.args.z in
-    let g = genes_of (words c.args.s.now) c.args.z in
-    (
+    let g = genes_of (words c.args.s.now) c.args.z in (
       rw c.indexed-given.ensures.listed.listed at (c.ready_order.ensures.listed p (naming_of c.requires.placed.1 c.requires.placed.2) (rw c.indexed-given.ensures.listed.listed (indexed_below c.requires.placed.1)) (rw c.indexed-given.ensures.listed.listed (indexed_stepwise c.requires.placed.1))),
       omega (arith, c.ready_order.ensures.upper_bound, ap length c.indexed-given.ensures.listed.listed, c.indexed-given.ensures.listed.whole, c.indexed-given.ensures.upper_bound),
     )

@@ -23,7 +23,7 @@ pub shape_of-order-in_default : goal.shape_of-order-in_default
 shape_of-order-in_default c = omega (arith, c.loop-taken.invariant.0.sized)
 
 pub returns-in_default : goal.returns-in_default
-returns-in_default c = record { listed = λ p n b s. take-listed c.loop-taken.invariant.0 p c.requires.1 (come_none c.loop-taken.invariant.0 p (c.loop-taken.invariant.1 p n b s).0 c.loop-taken-test.true c.skip_taken-front.ensures (c.first_ready.ensures p n b (told p c.args.activities.now c.loop-taken.pending s (c.loop-taken.invariant.1 p n b s).1)) c.in_default.is); upper_bound = c.loop-taken.invariant.0.within; }
+returns-in_default c = record { listed = λ p n b s. take-listed c.loop-taken.invariant.0 p c.requires.1 (come_none c.loop-taken.invariant.0 p (c.loop-taken.invariant.1 p n b s).0 c.loop-taken-test.true c.skip_taken-front.ensures (c.first_ready.ensures p n b (told p c.args.activities.now c.loop-taken.pending s (c.loop-taken.invariant.1 p n b s).1)) c.in_default.is); upper_bound = c.loop-taken.invariant.0.within }
 
 pub offset_bounds-order-taken : goal.offset_bounds-order-taken
 offset_bounds-order-taken c = omega (arith, c.loop-taken.invariant.0.sized, c.loop-taken-test.true, c.requires.1)
@@ -41,16 +41,16 @@ bounds-pending-a c = let known = a_known c.loop-taken.invariant.0 c.requires.0.p
 
 pub loop-taken-preserved : goal.loop-taken-preserved
 loop-taken-preserved c = let known = a_known c.loop-taken.invariant.0 c.requires.0.problem (c.loop-taken.invariant.1 c.requires.0.problem c.requires.0.naming c.requires.0.known c.requires.0.stepwise).0 c.loop-taken-test.true c.skip_taken-front.ensures (c.first_ready.ensures c.requires.0.problem c.requires.0.naming c.requires.0.known (told c.requires.0.problem c.args.activities.now c.loop-taken.pending c.requires.0.stepwise (c.loop-taken.invariant.1 c.requires.0.problem c.requires.0.naming c.requires.0.known c.requires.0.stepwise).1)) c.requires.0.known c.requires.0.naming.few c.in-To.is in (
-      take_again c.loop-taken.invariant.0 c.in-To.a c.loop-taken-test.true c.requires.1 c.skip_taken-front.ensures known,
-      λ p n b s.
-          let first = c.first_ready.ensures p n b (told p c.args.activities.now c.loop-taken.pending s (c.loop-taken.invariant.1 p n b s).1) in (
-            come_again c.loop-taken.invariant.0 p (c.loop-taken.invariant.1 p n b s).0 c.loop-taken-test.true c.skip_taken-front.ensures first c.in-To.is (omega (arith, c.loop-taken.invariant.0.sized, c.loop-taken-test.true, c.requires.1)),
-            rising_again p c.args.activities.now c.loop-taken.pending c.in-To.a c.loop-taken.invariant.0.flags known (a_comes c.loop-taken.invariant.0 p (c.loop-taken.invariant.1 p n b s).0 c.loop-taken-test.true c.skip_taken-front.ensures first c.in-To.is) (c.loop-taken.invariant.1 p n b s).1,
-          ),
-    )
+  take_again c.loop-taken.invariant.0 c.in-To.a c.loop-taken-test.true c.requires.1 c.skip_taken-front.ensures known,
+  λ p n b s.
+      let first = c.first_ready.ensures p n b (told p c.args.activities.now c.loop-taken.pending s (c.loop-taken.invariant.1 p n b s).1) in (
+        come_again c.loop-taken.invariant.0 p (c.loop-taken.invariant.1 p n b s).0 c.loop-taken-test.true c.skip_taken-front.ensures first c.in-To.is (omega (arith, c.loop-taken.invariant.0.sized, c.loop-taken-test.true, c.requires.1)),
+        rising_again p c.args.activities.now c.loop-taken.pending c.in-To.a c.loop-taken.invariant.0.flags known (a_comes c.loop-taken.invariant.0 p (c.loop-taken.invariant.1 p n b s).0 c.loop-taken-test.true c.skip_taken-front.ensures first c.in-To.is) (c.loop-taken.invariant.1 p n b s).1,
+      ),
+)
 
 pub shape_of-order : goal.shape_of-order
 shape_of-order c = omega (arith, c.loop-taken.invariant.0.sized)
 
 pub returns : goal.returns
-returns c = record { listed = λ p n b s. take-listed c.loop-taken.invariant.0 p c.requires.1 (come_end c.loop-taken.invariant.0 p (c.loop-taken.invariant.1 p n b s).0 c.loop-taken-test.false); upper_bound = c.loop-taken.invariant.0.within; }
+returns c = record { listed = λ p n b s. take-listed c.loop-taken.invariant.0 p c.requires.1 (come_end c.loop-taken.invariant.0 p (c.loop-taken.invariant.1 p n b s).0 c.loop-taken-test.false); upper_bound = c.loop-taken.invariant.0.within }

@@ -32,4 +32,4 @@ pub slice_bounds-look_in-end-9 : goal.slice_bounds-look_in-end-9
 slice_bounds-look_in-end-9 c = sym (lent c.args.z.activities c.requires.taken.0.accepted.activities.1)
 
 pub look_in-requires : goal.look_in-requires
-look_in-requires c = record { taken = c.requires.taken; rooms = (record { length_before = lent c.args.z.activities c.requires.taken.0.accepted.activities.1; length-after = lent c.args.z.activities c.requires.taken.0.accepted.activities.1; length-machines = lent c.args.z.activities c.requires.taken.0.accepted.activities.1; length-places = lent c.args.z.activities c.requires.taken.0.accepted.activities.1; length_order = lent c.args.z.activities c.requires.taken.0.accepted.activities.1; length_starts = lent c.args.z.activities c.requires.taken.0.accepted.activities.1; length-ends = lent c.args.z.activities c.requires.taken.0.accepted.activities.1 }, lent c.args.z.activities c.requires.taken.0.accepted.activities.1, lent c.args.z.activities c.requires.taken.0.accepted.activities.1, omega arith); in_bounds = c.requires.in_bounds; }
+look_in-requires c = record { taken = c.requires.taken; rooms = (record { length_before = lent c.args.z.activities c.requires.taken.0.accepted.activities.1; length-after = lent c.args.z.activities c.requires.taken.0.accepted.activities.1; length-machines = lent c.args.z.activities c.requires.taken.0.accepted.activities.1; length-places = lent c.args.z.activities c.requires.taken.0.accepted.activities.1; length_order = lent c.args.z.activities c.requires.taken.0.accepted.activities.1; length_starts = lent c.args.z.activities c.requires.taken.0.accepted.activities.1; length-ends = lent c.args.z.activities c.requires.taken.0.accepted.activities.1 }, lent c.args.z.activities c.requires.taken.0.accepted.activities.1, lent c.args.z.activities c.requires.taken.0.accepted.activities.1, omega arith); in_bounds = c.requires.in_bounds }

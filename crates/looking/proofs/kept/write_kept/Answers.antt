@@ -28,4 +28,4 @@ pub shape_of-ranks : goal.shape_of-ranks
 shape_of-ranks c = put_long c.put_ranks.ensures ∙ put_long c.put_ranks-rank.ensures
 
 pub returns : goal.returns
-returns c = record { kept = put_over (omega (arith, c.requires.2, length-append (rows_of (moves_of (ranked c.args.blocks))) (rows_of (moves_of (ranked c.args.others))), held_rows c.args.blocks c.requires.0, held_rows c.args.others c.requires.1)) (put_then c.put_moves-row.ensures c.put_moves.ensures); ranks = put_over (omega (arith, c.requires.3, length-append (ranks_of (ranked c.args.blocks)) (ranks_of (ranked c.args.others)), held_ranks c.args.blocks c.requires.0, held_ranks c.args.others c.requires.1)) (put_then c.put_ranks-rank.ensures c.put_ranks.ensures); }
+returns c = record { kept = put_over (omega (arith, c.requires.2, length-append (rows_of (moves_of (ranked c.args.blocks))) (rows_of (moves_of (ranked c.args.others))), held_rows c.args.blocks c.requires.0, held_rows c.args.others c.requires.1)) (put_then c.put_moves-row.ensures c.put_moves.ensures); ranks = put_over (omega (arith, c.requires.3, length-append (ranks_of (ranked c.args.blocks)) (ranks_of (ranked c.args.others)), held_ranks c.args.blocks c.requires.0, held_ranks c.args.others c.requires.1)) (put_then c.put_ranks-rank.ensures c.put_ranks.ensures) }

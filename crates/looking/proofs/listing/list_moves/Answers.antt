@@ -16,7 +16,7 @@ pub block_end-last-requires : goal.block_end-last-requires
 block_end-last-requires c = (c.requires.0, c.loop-i-test.true)
 
 pub put_run-at-requires : goal.put_run-at-requires
-put_run-at-requires c = record { scanned = (c.requires.0, c.requires.1, c.block_end-last.ensures); r_in_bounds = piece_room c.loop-i.invariant.1 (rows_of (own_moves_of_all (closed (block (get_or c.args.machines.now (get_or c.args.path.now c.loop-i.i 0) 0) (get_or c.args.places.now (get_or c.args.path.now c.loop-i.i 0) 0) (get_or c.args.places.now (get_or c.args.path.now c.block_end-last.result 0) 0))))) (rows_of (own_moves_of_all (blocks_by (λ a. get_or c.args.machines.now a 0) (λ a. get_or c.args.places.now a 0) (drop (c.block_end-last.result + 1) c.args.path.now)))) (runs_next (λ a. get_or c.args.machines.now a 0) (λ a. get_or c.args.places.now a 0) c.block_end-last.ensures); }
+put_run-at-requires c = record { scanned = (c.requires.0, c.requires.1, c.block_end-last.ensures); r_in_bounds = piece_room c.loop-i.invariant.1 (rows_of (own_moves_of_all (closed (block (get_or c.args.machines.now (get_or c.args.path.now c.loop-i.i 0) 0) (get_or c.args.places.now (get_or c.args.path.now c.loop-i.i 0) 0) (get_or c.args.places.now (get_or c.args.path.now c.block_end-last.result 0) 0))))) (rows_of (own_moves_of_all (blocks_by (λ a. get_or c.args.machines.now a 0) (λ a. get_or c.args.places.now a 0) (drop (c.block_end-last.result + 1) c.args.path.now)))) (runs_next (λ a. get_or c.args.machines.now a 0) (λ a. get_or c.args.places.now a 0) c.block_end-last.ensures) }
 
 pub overflow_add-i : goal.overflow_add-i
 overflow_add-i c = omega (arith, c.block_end-last.ensures.within, c.requires.1)

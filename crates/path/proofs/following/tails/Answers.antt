@@ -27,12 +27,12 @@ bounds-tail-a c = let m = length c.args.tail.now in
 
 pub loop-i-preserved : goal.loop-i-preserved
 loop-i-preserved c = (
-      omega (arith, c.loop-i.invariant.0),
-      simp length-set c.loop-i.invariant.1,
-      λ p lines w k.
-          let held = c.loop-i.invariant.2 p lines w k in
-          again w held c.loop-i-test.true (c.tail_of-longest.ensures p w.tabled (known w held c.loop-i-test.true) w.few w.linked),
-    )
+  omega (arith, c.loop-i.invariant.0),
+  simp length-set c.loop-i.invariant.1,
+  λ p lines w k.
+      let held = c.loop-i.invariant.2 p lines w k in
+      again w held c.loop-i-test.true (c.tail_of-longest.ensures p w.tabled (known w held c.loop-i-test.true) w.few w.linked),
+)
 
 pub shape_of-tail : goal.shape_of-tail
 shape_of-tail c = c.loop-i.invariant.1 ∙ ap length c.clear.ensures ∙ length-replicate (length c.args.tail.now) 0

@@ -16,7 +16,7 @@ use Rattle.search.proofs.SurveyLaws.{searched, seen, path_known, blocks_are, oth
 use Rattle.search.proofs.survey.find_moves.Goals as goal
 
 pub survey-at-requires : goal.survey-at-requires
-survey-at-requires c = record { ready = (c.requires.ready.0, c.requires.ready.1, c.requires.ready.2); lines_held = (c.requires.lines_held.0, c.requires.lines_held.1.length_before, c.requires.lines_held.1.length-after, c.requires.lines_held.1.length-machines, c.requires.lines_held.1.length-places, c.requires.lines_held.1.length_path, c.requires.lines_held.1.length_tail); }
+survey-at-requires c = record { ready = (c.requires.ready.0, c.requires.ready.1, c.requires.ready.2); lines_held = (c.requires.lines_held.0, c.requires.lines_held.1.length_before, c.requires.lines_held.1.length-after, c.requires.lines_held.1.length-machines, c.requires.lines_held.1.length-places, c.requires.lines_held.1.length_path, c.requires.lines_held.1.length_tail) }
 
 pub offset_bounds-path-at : goal.offset_bounds-path-at
 offset_bounds-path-at c = omega (arith, c.survey-at.ensures.walked.1, c.requires.ready.0.accepted.activities.1, c.survey-at.auto.path, c.requires.lines_held.1.length_path)
@@ -40,7 +40,7 @@ pub slice_bounds-reassignments-start : goal.slice_bounds-reassignments-start
 slice_bounds-reassignments-start c = omega (arith, c.survey-at.ensures.walked.1, c.requires.ready.0.accepted.activities.1, c.survey-at.auto.path, c.requires.lines_held.1.length_path)
 
 pub reassignments-others-requires : goal.reassignments-others-requires
-reassignments-others-requires c = record { choices_value = (c.requires.ready.3, c.requires.ready.0.placed, record { roomy = c.requires.ready.1.roomy; sixteen = c.requires.ready.1.sixteen; fit = fit_well c.args.cells.now c.args.lens c.requires.ready.1.well }, accepted_open c.requires.ready.0.accepted c.requires.ready.1.well, path_known (problem_of (words c.args.s.now) c.args.z) (genes_of (words c.args.s.now) c.args.z) c.requires.ready.0.accepted (lines_in c.args.cells.now c.args.lens) c.requires.ready.1.well c.requires.ready.2 c.requires.ready.0.tabled (neighbours c.requires.lines_held.0 c.requires.lines_held.1.length_before c.requires.lines_held.1.length-after) c.args.machines.now c.args.places.now c.requires.lines_held.1.length-machines c.requires.lines_held.1.length-places c.requires.lines_held.0.on c.requires.lines_held.0.at c.requires.ready.0.transports (part_is c.survey-at.new.path c.survey-at.result (omega (arith, c.survey-at.ensures.walked.1, c.requires.ready.0.accepted.activities.1, c.survey-at.auto.path, c.requires.lines_held.1.length_path)) ∙ c.survey-at.ensures.walked.0)); seen = seen (problem_of (words c.args.s.now) c.args.z) (genes_of (words c.args.s.now) c.args.z) c.requires.ready.0.accepted (lines_in c.args.cells.now c.args.lens) c.requires.ready.1.well c.requires.ready.2 c.requires.ready.0.tabled (neighbours c.requires.lines_held.0 c.requires.lines_held.1.length_before c.requires.lines_held.1.length-after) c.args.machines.now c.args.places.now c.requires.lines_held.1.length-machines c.requires.lines_held.1.length-places c.requires.lines_held.0.on c.requires.lines_held.0.at c.survey-at.ensures.tailed; }
+reassignments-others-requires c = record { choices_value = (c.requires.ready.3, c.requires.ready.0.placed, record { roomy = c.requires.ready.1.roomy; sixteen = c.requires.ready.1.sixteen; fit = fit_well c.args.cells.now c.args.lens c.requires.ready.1.well }, accepted_open c.requires.ready.0.accepted c.requires.ready.1.well, path_known (problem_of (words c.args.s.now) c.args.z) (genes_of (words c.args.s.now) c.args.z) c.requires.ready.0.accepted (lines_in c.args.cells.now c.args.lens) c.requires.ready.1.well c.requires.ready.2 c.requires.ready.0.tabled (neighbours c.requires.lines_held.0 c.requires.lines_held.1.length_before c.requires.lines_held.1.length-after) c.args.machines.now c.args.places.now c.requires.lines_held.1.length-machines c.requires.lines_held.1.length-places c.requires.lines_held.0.on c.requires.lines_held.0.at c.requires.ready.0.transports (part_is c.survey-at.new.path c.survey-at.result (omega (arith, c.survey-at.ensures.walked.1, c.requires.ready.0.accepted.activities.1, c.survey-at.auto.path, c.requires.lines_held.1.length_path)) ∙ c.survey-at.ensures.walked.0)); seen = seen (problem_of (words c.args.s.now) c.args.z) (genes_of (words c.args.s.now) c.args.z) c.requires.ready.0.accepted (lines_in c.args.cells.now c.args.lens) c.requires.ready.1.well c.requires.ready.2 c.requires.ready.0.tabled (neighbours c.requires.lines_held.0 c.requires.lines_held.1.length_before c.requires.lines_held.1.length-after) c.args.machines.now c.args.places.now c.requires.lines_held.1.length-machines c.requires.lines_held.1.length-places c.requires.lines_held.0.on c.requires.lines_held.0.at c.survey-at.ensures.tailed }
 
 pub shape_of-path : goal.shape_of-path
 shape_of-path c = c.survey-at.auto.path
@@ -52,7 +52,11 @@ pub returns : goal.returns
 returns c = let bs = blocks_are (problem_of (words c.args.s.now) c.args.z) (genes_of (words c.args.s.now) c.args.z) c.requires.ready.0.accepted (lines_in c.args.cells.now c.args.lens) c.requires.ready.1.well c.requires.ready.2 c.survey-at.ensures.tailed (part_is c.survey-at.new.path c.survey-at.result (omega (arith, c.survey-at.ensures.walked.1, c.requires.ready.0.accepted.activities.1, c.survey-at.auto.path, c.requires.lines_held.1.length_path)) ∙ c.survey-at.ensures.walked.0) (c.block_moves-blocks.ensures.result_value (problem_of (words c.args.s.now) c.args.z) c.args.order.now (searched (problem_of (words c.args.s.now) c.args.z) (genes_of (words c.args.s.now) c.args.z) c.requires.ready.0.accepted (lines_in c.args.cells.now c.args.lens) c.requires.ready.1.well c.requires.ready.2 c.requires.ready.0.tabled (neighbours c.requires.lines_held.0 c.requires.lines_held.1.length_before c.requires.lines_held.1.length-after) c.args.machines.now c.args.places.now c.requires.lines_held.1.length-machines c.requires.lines_held.1.length-places c.requires.lines_held.0.on c.requires.lines_held.0.at c.survey-at.ensures.tailed (part_is c.survey-at.new.path c.survey-at.result (omega (arith, c.survey-at.ensures.walked.1, c.requires.ready.0.accepted.activities.1, c.survey-at.auto.path, c.requires.lines_held.1.length_path)) ∙ c.survey-at.ensures.walked.0))) in
     let os = others_are (problem_of (words c.args.s.now) c.args.z) (genes_of (words c.args.s.now) c.args.z) c.requires.ready.0.accepted (lines_in c.args.cells.now c.args.lens) c.requires.ready.1.well c.requires.ready.2 c.survey-at.ensures.tailed (part_is c.survey-at.new.path c.survey-at.result (omega (arith, c.survey-at.ensures.walked.1, c.requires.ready.0.accepted.activities.1, c.survey-at.auto.path, c.requires.lines_held.1.length_path)) ∙ c.survey-at.ensures.walked.0) (c.reassignments-others.ensures.by_index c.args.order.now) in
     let known = path_known (problem_of (words c.args.s.now) c.args.z) (genes_of (words c.args.s.now) c.args.z) c.requires.ready.0.accepted (lines_in c.args.cells.now c.args.lens) c.requires.ready.1.well c.requires.ready.2 c.requires.ready.0.tabled (neighbours c.requires.lines_held.0 c.requires.lines_held.1.length_before c.requires.lines_held.1.length-after) c.args.machines.now c.args.places.now c.requires.lines_held.1.length-machines c.requires.lines_held.1.length-places c.requires.lines_held.0.on c.requires.lines_held.0.at c.requires.ready.0.transports (part_is c.survey-at.new.path c.survey-at.result (omega (arith, c.survey-at.ensures.walked.1, c.requires.ready.0.accepted.activities.1, c.survey-at.auto.path, c.requires.lines_held.1.length_path)) ∙ c.survey-at.ensures.walked.0) in
-    record { blocks = (bs, c.block_moves-blocks.ensures.count_bound); others = (os, c.reassignments-others.ensures.count_bound); allowed = (
-          blocks_allowed (problem_of (words c.args.s.now) c.args.z) (lines_in c.args.cells.now c.args.lens) (subst (λ (l : List ℕ). Pathed (problem_of (words c.args.s.now) c.args.z).n (lines_in c.args.cells.now c.args.lens) l c.args.machines.now c.args.places.now) (part_is c.survey-at.new.path c.survey-at.result (omega (arith, c.survey-at.ensures.walked.1, c.requires.ready.0.accepted.activities.1, c.survey-at.auto.path, c.requires.lines_held.1.length_path)) ∙ c.survey-at.ensures.walked.0) (searched (problem_of (words c.args.s.now) c.args.z) (genes_of (words c.args.s.now) c.args.z) c.requires.ready.0.accepted (lines_in c.args.cells.now c.args.lens) c.requires.ready.1.well c.requires.ready.2 c.requires.ready.0.tabled (neighbours c.requires.lines_held.0 c.requires.lines_held.1.length_before c.requires.lines_held.1.length-after) c.args.machines.now c.args.places.now c.requires.lines_held.1.length-machines c.requires.lines_held.1.length-places c.requires.lines_held.0.on c.requires.lines_held.0.at c.survey-at.ensures.tailed (part_is c.survey-at.new.path c.survey-at.result (omega (arith, c.survey-at.ensures.walked.1, c.requires.ready.0.accepted.activities.1, c.survey-at.auto.path, c.requires.lines_held.1.length_path)) ∙ c.survey-at.ensures.walked.0)).pathed) c.block_moves-blocks.result c.block_moves-blocks.ensures.count_bound bs,
-          others_allowed (problem_of (words c.args.s.now) c.args.z) (lines_in c.args.cells.now c.args.lens) c.requires.ready.0.accepted (many_in c.args.cells.now c.args.lens ∙ c.requires.ready.1.sixteen) c.requires.ready.1.well (subst (λ (l : List ℕ). Below (problem_of (words c.args.s.now) c.args.z).n l) (part_is c.survey-at.new.path c.survey-at.result (omega (arith, c.survey-at.ensures.walked.1, c.requires.ready.0.accepted.activities.1, c.survey-at.auto.path, c.requires.lines_held.1.length_path)) ∙ c.survey-at.ensures.walked.0) known) c.reassignments-others.result c.reassignments-others.ensures.count_bound os,
-        ); }
+    record {
+      blocks = (bs, c.block_moves-blocks.ensures.count_bound);
+      others = (os, c.reassignments-others.ensures.count_bound);
+      allowed = (
+        blocks_allowed (problem_of (words c.args.s.now) c.args.z) (lines_in c.args.cells.now c.args.lens) (subst (λ (l : List ℕ). Pathed (problem_of (words c.args.s.now) c.args.z).n (lines_in c.args.cells.now c.args.lens) l c.args.machines.now c.args.places.now) (part_is c.survey-at.new.path c.survey-at.result (omega (arith, c.survey-at.ensures.walked.1, c.requires.ready.0.accepted.activities.1, c.survey-at.auto.path, c.requires.lines_held.1.length_path)) ∙ c.survey-at.ensures.walked.0) (searched (problem_of (words c.args.s.now) c.args.z) (genes_of (words c.args.s.now) c.args.z) c.requires.ready.0.accepted (lines_in c.args.cells.now c.args.lens) c.requires.ready.1.well c.requires.ready.2 c.requires.ready.0.tabled (neighbours c.requires.lines_held.0 c.requires.lines_held.1.length_before c.requires.lines_held.1.length-after) c.args.machines.now c.args.places.now c.requires.lines_held.1.length-machines c.requires.lines_held.1.length-places c.requires.lines_held.0.on c.requires.lines_held.0.at c.survey-at.ensures.tailed (part_is c.survey-at.new.path c.survey-at.result (omega (arith, c.survey-at.ensures.walked.1, c.requires.ready.0.accepted.activities.1, c.survey-at.auto.path, c.requires.lines_held.1.length_path)) ∙ c.survey-at.ensures.walked.0)).pathed) c.block_moves-blocks.result c.block_moves-blocks.ensures.count_bound bs,
+        others_allowed (problem_of (words c.args.s.now) c.args.z) (lines_in c.args.cells.now c.args.lens) c.requires.ready.0.accepted (many_in c.args.cells.now c.args.lens ∙ c.requires.ready.1.sixteen) c.requires.ready.1.well (subst (λ (l : List ℕ). Below (problem_of (words c.args.s.now) c.args.z).n l) (part_is c.survey-at.new.path c.survey-at.result (omega (arith, c.survey-at.ensures.walked.1, c.requires.ready.0.accepted.activities.1, c.survey-at.auto.path, c.requires.lines_held.1.length_path)) ∙ c.survey-at.ensures.walked.0) known) c.reassignments-others.result c.reassignments-others.ensures.count_bound os,
+      );
+    }

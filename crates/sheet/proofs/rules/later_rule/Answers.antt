@@ -12,7 +12,7 @@ use Rattle.sheet.proofs.rules.later_rule.Goals as goal
 
 pub own_rule-own-requires : goal.own_rule-own-requires
 own_rule-own-requires c = let p = problem_of (words c.args.s.now) c.args.z in
-    record { placed = c.requires.placed; a_lt_activities = (c.requires.a_lt_activities.0, c.requires.a_lt_activities.1, c.requires.a_lt_activities.2, c.requires.a_lt_activities.3, c.requires.a_lt_activities.4.at c.args.a (omega (arith, c.requires.a_lt_activities.0, c.requires.placed.1.activities.1))); }
+    record { placed = c.requires.placed; a_lt_activities = (c.requires.a_lt_activities.0, c.requires.a_lt_activities.1, c.requires.a_lt_activities.2, c.requires.a_lt_activities.3, c.requires.a_lt_activities.4.at c.args.a (omega (arith, c.requires.a_lt_activities.0, c.requires.placed.1.activities.1))) }
 
 pub returns-then-own-ne0 : goal.returns-then-own-ne0
 returns-then-own-ne0 c = let p = problem_of (words c.args.s.now) c.args.z in

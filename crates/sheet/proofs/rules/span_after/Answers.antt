@@ -9,7 +9,7 @@ use Rattle.sheet.proofs.rules.span_after.Goals as goal
 
 pub setup_of-setup-requires : goal.setup_of-setup-requires
 setup_of-setup-requires c = let e : Below c.args.z.activities (linked c.activity_of-link.result) = rw c.activity_of-link.ensures (linked_below c.args.z.activities c.args.z.machines c.args.rows.now c.args.before) in
-    record { placed = c.requires.placed; a_lt_activities = (c.requires.a_lt_activities.0, c.requires.a_lt_activities.1, e); }
+    record { placed = c.requires.placed; a_lt_activities = (c.requires.a_lt_activities.0, c.requires.a_lt_activities.1, e) }
 
 pub span-requires : goal.span-requires
 span-requires c = let p = problem_of (words c.args.s.now) c.args.z in let g = genes_of (words c.args.s.now) c.args.z in

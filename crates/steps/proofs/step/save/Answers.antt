@@ -12,4 +12,4 @@ pub slice_bounds-save-end-3 : goal.slice_bounds-save-end-3
 slice_bounds-save-end-3 c = sym (lent c.args.n c.requires.table_len.4)
 
 pub save-requires : goal.save-requires
-save-requires c = record { table_len = (c.requires.table_len.0, c.requires.table_len.1, c.requires.table_len.2, c.requires.table_len.3); before_len = (lent c.args.n c.requires.table_len.4, lent c.args.n c.requires.table_len.4, lent c.args.n c.requires.table_len.4, c.requires.tasks_len.0, c.requires.tasks_len.1); }
+save-requires c = record { table_len = (c.requires.table_len.0, c.requires.table_len.1, c.requires.table_len.2, c.requires.table_len.3); before_len = (lent c.args.n c.requires.table_len.4, lent c.args.n c.requires.table_len.4, lent c.args.n c.requires.table_len.4, c.requires.tasks_len.0, c.requires.tasks_len.1) }

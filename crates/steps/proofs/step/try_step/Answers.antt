@@ -34,7 +34,7 @@ pub slice_bounds-best_move-end-11 : goal.slice_bounds-best_move-end-11
 slice_bounds-best_move-end-11 c = sym (lent c.args.z.activities c.requires.ready.0.accepted.activities.1)
 
 pub best_move-requires : goal.best_move-requires
-best_move-requires c = record { ready = c.requires.ready; space = (record { length_before = lent c.args.z.activities c.requires.ready.0.accepted.activities.1; length-after = lent c.args.z.activities c.requires.ready.0.accepted.activities.1; length-machines = lent c.args.z.activities c.requires.ready.0.accepted.activities.1; length-places = lent c.args.z.activities c.requires.ready.0.accepted.activities.1; length_path = lent c.args.z.activities c.requires.ready.0.accepted.activities.1; length_tail = lent c.args.z.activities c.requires.ready.0.accepted.activities.1; length_heads = search rules }, lent c.args.z.activities c.requires.ready.0.accepted.activities.1); kept = (record { length_order = lent c.args.z.activities c.requires.ready.0.accepted.activities.1; length_starts = lent c.args.z.activities c.requires.ready.0.accepted.activities.1; length-ends = lent c.args.z.activities c.requires.ready.0.accepted.activities.1 }, c.requires.kept); }
+best_move-requires c = record { ready = c.requires.ready; space = (record { length_before = lent c.args.z.activities c.requires.ready.0.accepted.activities.1; length-after = lent c.args.z.activities c.requires.ready.0.accepted.activities.1; length-machines = lent c.args.z.activities c.requires.ready.0.accepted.activities.1; length-places = lent c.args.z.activities c.requires.ready.0.accepted.activities.1; length_path = lent c.args.z.activities c.requires.ready.0.accepted.activities.1; length_tail = lent c.args.z.activities c.requires.ready.0.accepted.activities.1; length_heads = search rules }, lent c.args.z.activities c.requires.ready.0.accepted.activities.1); kept = (record { length_order = lent c.args.z.activities c.requires.ready.0.accepted.activities.1; length_starts = lent c.args.z.activities c.requires.ready.0.accepted.activities.1; length-ends = lent c.args.z.activities c.requires.ready.0.accepted.activities.1 }, c.requires.kept) }
 
 pub shape_of-cells : goal.shape_of-cells
 shape_of-cells c = c.best_move.auto.cells

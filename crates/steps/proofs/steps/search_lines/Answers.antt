@@ -16,7 +16,7 @@ pub loop-step-init : goal.loop-step-init
 loop-step-init c = record { within = omega arith; few = c.requires.limit_bound.0; lined = c.requires.ready.1; timed = c.requires.ready.2; room = c.requires.kept.0; kept = c.requires.kept.1; tasked = c.requires.limit_bound.2; machined = c.requires.limit_bound.3; number = subst Number (sym c.requires.limit_bound.1) (line_number c.args.s.now c.args.z c.requires.ready.0.accepted (below_all 256 c.args.s.now (λ k l. omega (arith, c.shared_slice_known-1.given k))) c.requires.ready.0.weighed (lines_in c.args.cells.now c.args.lens) c.requires.ready.1.well c.requires.ready.2); ahead = first_ahead (problem_of (words c.args.s.now) c.args.z) c.args.limit (lines_in c.args.cells.now c.args.lens) c.fresh_taboo-pairs.ensures c.fresh_taboo-left.ensures c.requires.limit_bound.1 c.args.tasks.now c.args.machines.now }
 
 pub try_step-tried-requires : goal.try_step-tried-requires
-try_step-tried-requires c = record { ready = (c.requires.ready.0, c.loop-step.invariant.lined, c.loop-step.invariant.timed, c.requires.ready.3); kept = c.loop-step.invariant.kept; }
+try_step-tried-requires c = record { ready = (c.requires.ready.0, c.loop-step.invariant.lined, c.loop-step.invariant.timed, c.requires.ready.3); kept = c.loop-step.invariant.kept }
 
 pub loop-step-smaller-in_default : goal.loop-step-smaller-in_default
 loop-step-smaller-in_default c = omega (arith, c.loop-step-test.true)
@@ -31,10 +31,10 @@ pub left_after-quit-requires : goal.left_after-quit-requires
 left_after-quit-requires c = omega (arith, c.loop-step-test.true, c.loop-step.invariant.few)
 
 pub make_move-moved-requires : goal.make_move-moved-requires
-make_move-moved-requires c = record { cells_len = ((c.try_step-tried.auto.cells ∙ c.loop-step.invariant.lined.roomy), fit_of c.try_step-tried.new.cells c.loop-step.lengths (well_back c.loop-step.invariant c.in-Found.is c.try_step-tried.new.cells c.try_step-tried.ensures.holding c.try_step-tried.ensures.lines), (allowed_back c.loop-step.invariant c.in-Found.is c.try_step-tried.new.cells c.try_step-tried.ensures.holding c.try_step-tried.ensures.lines).fits); order_len = (c.loop-step.invariant.room.length_order ∙ sym (c.try_step-tried.auto.taken ∙ c.loop-step.invariant.kept.length_order), c.loop-step.invariant.room.length_starts ∙ sym (c.try_step-tried.auto.begun ∙ c.loop-step.invariant.kept.length_starts), c.loop-step.invariant.room.length-ends ∙ sym (c.try_step-tried.auto.done ∙ c.loop-step.invariant.kept.length-ends)); }
+make_move-moved-requires c = record { cells_len = ((c.try_step-tried.auto.cells ∙ c.loop-step.invariant.lined.roomy), fit_of c.try_step-tried.new.cells c.loop-step.lengths (well_back c.loop-step.invariant c.in-Found.is c.try_step-tried.new.cells c.try_step-tried.ensures.holding c.try_step-tried.ensures.lines), (allowed_back c.loop-step.invariant c.in-Found.is c.try_step-tried.new.cells c.try_step-tried.ensures.holding c.try_step-tried.ensures.lines).fits); order_len = (c.loop-step.invariant.room.length_order ∙ sym (c.try_step-tried.auto.taken ∙ c.loop-step.invariant.kept.length_order), c.loop-step.invariant.room.length_starts ∙ sym (c.try_step-tried.auto.begun ∙ c.loop-step.invariant.kept.length_starts), c.loop-step.invariant.room.length-ends ∙ sym (c.try_step-tried.auto.done ∙ c.loop-step.invariant.kept.length-ends)) }
 
 pub keep-sofar-requires : goal.keep-sofar-requires
-keep-sofar-requires c = record { table_len = (c.requires.ready.0.tabled.sized, below_more c.args.z.activities 128 c.make_move-moved.new.order c.requires.ready.0.accepted.activities.1 (order_known (problem_of (words c.args.s.now) c.args.z) (genes_of (words c.args.s.now) c.args.z) c.requires.ready.0.accepted (lines_in c.make_move-moved.new.cells c.make_move-moved.result) (moved_well c.loop-step.invariant c.in-Found.is c.try_step-tried.new.cells c.try_step-tried.ensures.holding c.try_step-tried.ensures.lines c.make_move-moved.new.cells c.make_move-moved.result c.make_move-moved.ensures.lines.0) (moved-timed c.loop-step.invariant c.in-Found.is c.try_step-tried.new.cells c.try_step-tried.ensures.holding c.try_step-tried.ensures.lines c.make_move-moved.new.cells c.make_move-moved.result c.make_move-moved.ensures.lines.0 c.make_move-moved.ensures.timing)), (c.make_move-moved.auto.cells ∙ (c.try_step-tried.auto.cells ∙ c.loop-step.invariant.lined.roomy)), well_16 c.requires.ready.0.accepted.machines.1 (moved_well c.loop-step.invariant c.in-Found.is c.try_step-tried.new.cells c.try_step-tried.ensures.holding c.try_step-tried.ensures.lines c.make_move-moved.new.cells c.make_move-moved.result c.make_move-moved.ensures.lines.0), c.requires.ready.0.accepted.activities.1); tasks_len = (c.loop-step.invariant.tasked ∙ sym (c.make_move-moved.auto.order ∙ c.loop-step.invariant.room.length_order), c.loop-step.invariant.machined); }
+keep-sofar-requires c = record { table_len = (c.requires.ready.0.tabled.sized, below_more c.args.z.activities 128 c.make_move-moved.new.order c.requires.ready.0.accepted.activities.1 (order_known (problem_of (words c.args.s.now) c.args.z) (genes_of (words c.args.s.now) c.args.z) c.requires.ready.0.accepted (lines_in c.make_move-moved.new.cells c.make_move-moved.result) (moved_well c.loop-step.invariant c.in-Found.is c.try_step-tried.new.cells c.try_step-tried.ensures.holding c.try_step-tried.ensures.lines c.make_move-moved.new.cells c.make_move-moved.result c.make_move-moved.ensures.lines.0) (moved-timed c.loop-step.invariant c.in-Found.is c.try_step-tried.new.cells c.try_step-tried.ensures.holding c.try_step-tried.ensures.lines c.make_move-moved.new.cells c.make_move-moved.result c.make_move-moved.ensures.lines.0 c.make_move-moved.ensures.timing)), (c.make_move-moved.auto.cells ∙ (c.try_step-tried.auto.cells ∙ c.loop-step.invariant.lined.roomy)), well_16 c.requires.ready.0.accepted.machines.1 (moved_well c.loop-step.invariant c.in-Found.is c.try_step-tried.new.cells c.try_step-tried.ensures.holding c.try_step-tried.ensures.lines c.make_move-moved.new.cells c.make_move-moved.result c.make_move-moved.ensures.lines.0), c.requires.ready.0.accepted.activities.1); tasks_len = (c.loop-step.invariant.tasked ∙ sym (c.make_move-moved.auto.order ∙ c.loop-step.invariant.room.length_order), c.loop-step.invariant.machined) }
 
 pub overflow_add-step : goal.overflow_add-step
 overflow_add-step c = next_fits c.loop-step.step (omega (arith, c.loop-step-test.true, c.loop-step.invariant.few))
@@ -73,4 +73,4 @@ pub shape_of-machines : goal.shape_of-machines
 shape_of-machines c = (c.loop-step.invariant.machined ∙ sym c.requires.limit_bound.3)
 
 pub returns : goal.returns
-returns c = record { best = sym (ap (λ (x : State). x.best) (all_made c.loop-step.invariant (omega (arith, c.loop-step-test.false)))); found = sym (ap (λ (x : State). x.found) (all_made c.loop-step.invariant (omega (arith, c.loop-step-test.false)))); number = c.loop-step.invariant.number; }
+returns c = record { best = sym (ap (λ (x : State). x.best) (all_made c.loop-step.invariant (omega (arith, c.loop-step-test.false)))); found = sym (ap (λ (x : State). x.found) (all_made c.loop-step.invariant (omega (arith, c.loop-step-test.false)))); number = c.loop-step.invariant.number }

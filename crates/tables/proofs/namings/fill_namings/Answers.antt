@@ -14,7 +14,7 @@ file_pairs-requires c = let ws = words c.args.s.now in
     let all : c.word-count.result ≡ count ws c.args.z c.args.z.at.predecessors = c.word-count.ensures in
     let acts = section_below ws c.args.z.activities c.word-count.result c.args.z.at.predecessors 0 (c.args.z.at.predecessors + 1) (omega arith) (λ i h. c.requires.1.predecessor_of i (omega arith)) in
     let preds = section_below ws c.args.z.activities c.word-count.result c.args.z.at.predecessors 1 (c.args.z.at.predecessors + 2) (omega arith) (λ i h. c.requires.1.predecessor_named i (omega arith)) in
-    record { n_bound = (c.requires.0.activities, c.requires.2, omega arith, omega arith, omega arith, c.requires.4); below = (subst (λ (x : List ℕ). Below c.args.z.activities x) (sym c.load_pairs.ensures.0) acts, subst (λ (x : List ℕ). Below c.args.z.activities x) (sym c.load_pairs.ensures.1) preds); }
+    record { n_bound = (c.requires.0.activities, c.requires.2, omega arith, omega arith, omega arith, c.requires.4); below = (subst (λ (x : List ℕ). Below c.args.z.activities x) (sym c.load_pairs.ensures.0) acts, subst (λ (x : List ℕ). Below c.args.z.activities x) (sym c.load_pairs.ensures.1) preds) }
 
 pub returns : goal.returns
 returns c = namings_of (words c.args.s.now) c.args.z c.word-count.result c.word-count.ensures c.requires.0.activities (c.file_pairs.auto.part ∙ c.requires.4) c.requires.3

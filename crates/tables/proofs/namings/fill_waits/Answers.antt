@@ -13,8 +13,7 @@ slice_bounds-tally_by-end c = sym (length-take-le c.args.count c.args.acts.now c
 
 pub tally_by-requires : goal.tally_by-requires
 tally_by-requires c = let acts = take c.args.count c.args.acts.now in
-    let few = length-take-le c.args.count c.args.acts.now c.requires.1 in
-    (
+    let few = length-take-le c.args.count c.args.acts.now c.requires.1 in (
       subst (λ (k : ℕ). Below k acts) (sym c.fill_befores.auto.befores) c.requires.3,
       λ x. omega (arith, befores_small (length c.args.waits.now) c.args.owners.now c.fill_befores.new.befores c.fill_befores.auto.befores c.fill_befores.ensures x),
     )

@@ -39,12 +39,12 @@ overflow_add-a c = omega (arith, c.requires.0.activities)
 
 pub loop-a-preserved : goal.loop-a-preserved
 loop-a-preserved c = (
-      omega arith,
-      row_next c.loop-a.a c.args.z.machines c.args.z.at.times c.loop-a.first c.loop-a.invariant.1,
-      search rules,
-      spanned_more (words c.args.s.now) c.args.z c.loop-a.a (16 * c.loop-a.a + c.args.z.machines - 16 * c.loop-a.a) c.loop-a.first c.loop-a.spans c.fill_machines.new.spans c.loop-a.invariant.3 c.loop-a.invariant.1 (omega arith)
-          c.requires.0.machines (omega (arith, c.requires.0.activities)) (c.loop-a.invariant.2 ∙ c.requires.1) c.fill_machines.auto.spans c.fill_machines.ensures,
-    )
+  omega arith,
+  row_next c.loop-a.a c.args.z.machines c.args.z.at.times c.loop-a.first c.loop-a.invariant.1,
+  search rules,
+  spanned_more (words c.args.s.now) c.args.z c.loop-a.a (16 * c.loop-a.a + c.args.z.machines - 16 * c.loop-a.a) c.loop-a.first c.loop-a.spans c.fill_machines.new.spans c.loop-a.invariant.3 c.loop-a.invariant.1 (omega arith)
+      c.requires.0.machines (omega (arith, c.requires.0.activities)) (c.loop-a.invariant.2 ∙ c.requires.1) c.fill_machines.auto.spans c.fill_machines.ensures,
+)
 
 pub returns : goal.returns
 returns c = spanned_to _ (omega arith) c.loop-a.invariant.3

@@ -30,7 +30,7 @@ bounds-machines-a c = let h : c.loop-a.a < c.args.z.activities = omega (arith, c
 pub setup_of-requires : goal.setup_of-requires
 setup_of-requires c = let h : c.loop-a.a < c.args.z.activities = omega (arith, c.loop-a-test.true, c.loop-a.invariant.sized) in
     let seat = seat_known c.requires.well_formed.0 c.requires.well_formed.1 c.loop-a.a h in
-    record { placed = c.requires.placed; a_lt_activities = (h, seat.0, rw c.link_of-line.ensures seat.1); }
+    record { placed = c.requires.placed; a_lt_activities = (h, seat.0, rw c.link_of-line.ensures seat.1) }
 
 pub loop-a-smaller : goal.loop-a-smaller
 loop-a-smaller c = omega (arith, length-set c.loop-a.setups c.loop-a.a c.setup_of.result)

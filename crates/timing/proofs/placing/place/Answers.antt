@@ -59,7 +59,7 @@ start_after-start-requires c = let p = problem_of (words c.args.s.now) c.args.z 
     )
 
 pub span_on-span-requires : goal.span_on-span-requires
-span_on-span-requires c = record { placed = (c.requires.placed.0, c.requires.placed.1, c.requires.placed.2, c.requires.placed.3); a_lt_activities = (c.requires.placeable.known, c.requires.placeable.on, rw (c.link_of-line.ensures, ← c.requires.placeable.length-ends) c.requires.placeable.line.known); }
+span_on-span-requires c = record { placed = (c.requires.placed.0, c.requires.placed.1, c.requires.placed.2, c.requires.placed.3); a_lt_activities = (c.requires.placeable.known, c.requires.placeable.on, rw (c.link_of-line.ensures, ← c.requires.placeable.length-ends) c.requires.placeable.line.known) }
 
 pub overflow_add-ends : goal.overflow_add-ends
 overflow_add-ends c = let p = problem_of (words c.args.s.now) c.args.z in
@@ -79,4 +79,4 @@ returns c = let p = problem_of (words c.args.s.now) c.args.z in
     let way = way_is p g c.requires.placed.1 c.requires.placed.4 from c.requires.placeable.on in
     let start = start_now_lem p c.args.before.now c.args.machines.now c.args.ends.now c.args.a c.link_of-line.ensures es c.machine_before-from.ensures way (c.start_after-start.ensures p c.requires.placed.2 c.requires.placeable.known c.requires.placed.1.activities.1) in
     let span = span_now_lem p c.args.before.now c.args.machines.now c.args.a c.link_of-line.ensures c.span_on-span.ensures in
-    record { starts_after = ap (λ (x : ℕ). set c.args.starts.now c.args.a x) start; ends_after = ap (λ (x : ℕ). set c.args.ends.now c.args.a x) (ap₂ ◌+◌ start span); }
+    record { starts_after = ap (λ (x : ℕ). set c.args.starts.now c.args.a x) start; ends_after = ap (λ (x : ℕ). set c.args.ends.now c.args.a x) (ap₂ ◌+◌ start span) }

@@ -17,7 +17,7 @@ full c =
     omega (arith, c.decimal_places-n.ensures, length-decimal c.args.v)
 
 pub returns-then-not-has_room : goal.returns-then-not-has_room
-returns-then-not-has_room c = record { line = sym (written_full _ _ _ (full c)); place = sym (place_after_full _ _ _ (full c)); }
+returns-then-not-has_room c = record { line = sym (written_full _ _ _ (full c)); place = sym (place_after_full _ _ _ (full c)) }
 
 pub overflow_add-end : goal.overflow_add-end
 overflow_add-end c = let h : c.args.at + c.decimal_places-n.result ≤ length c.args.line.now = leb-true _ _ (sym c.has_room.ensures ∙ c.if-not-has_room.false) in omega arith
@@ -30,11 +30,11 @@ bounds-line-i c = let h : c.args.at + c.decimal_places-n.result ≤ length c.arg
 
 pub loop-i-preserved : goal.loop-i-preserved
 loop-i-preserved c = (
-      omega arith,
-      omega arith,
-      length-set c.loop-i.line (c.loop-i.i - 1) c.last_decimal.result ∙ c.loop-i.invariant.2,
-      rw c.last_decimal.ensures (digit_put 10 c.loop-i.line c.args.at c.loop-i.i c.loop-i.rest c.loop-i-test.true ∙ c.loop-i.invariant.3),
-    )
+  omega arith,
+  omega arith,
+  length-set c.loop-i.line (c.loop-i.i - 1) c.last_decimal.result ∙ c.loop-i.invariant.2,
+  rw c.last_decimal.ensures (digit_put 10 c.loop-i.line c.args.at c.loop-i.i c.loop-i.rest c.loop-i-test.true ∙ c.loop-i.invariant.3),
+)
 
 pub shape_of-line : goal.shape_of-line
 shape_of-line c = c.loop-i.invariant.2
@@ -43,6 +43,9 @@ pub returns : goal.returns
 unfolding decimal
 returns c = let h : c.args.at + c.decimal_places-n.result ≤ length c.args.line.now = leb-true _ _ (sym c.has_room.ensures ∙ c.if-not-has_room.false) in
     let fits : c.args.at + length (decimal c.args.v) ≤ length c.args.line.now = omega (arith, c.decimal_places-n.ensures, length-decimal c.args.v) in
-    record { line = sym (digits_put 10 c.loop-i.line c.args.at c.loop-i.i c.loop-i.rest c.loop-i-test.false)
+    record {
+      line = sym (digits_put 10 c.loop-i.line c.args.at c.loop-i.i c.loop-i.rest c.loop-i-test.false)
           ∙ c.loop-i.invariant.3
-          ∙ rw c.decimal_places-n.ensures (sym (written-fits c.args.line.now c.args.at (decimal c.args.v) fits)); place = rw (place_after-fits c.args.line.now c.args.at (decimal c.args.v) fits, length-decimal c.args.v, c.decimal_places-n.ensures); }
+          ∙ rw c.decimal_places-n.ensures (sym (written-fits c.args.line.now c.args.at (decimal c.args.v) fits));
+      place = rw (place_after-fits c.args.line.now c.args.at (decimal c.args.v) fits, length-decimal c.args.v, c.decimal_places-n.ensures);
+    }

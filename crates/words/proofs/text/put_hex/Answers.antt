@@ -14,7 +14,7 @@ full c = leb-false _ _ (sym c.has_room.ensures ∙ c.if-not-has_room.true)
 
 pub returns-then-not-has_room : goal.returns-then-not-has_room
 returns-then-not-has_room c = let h = full c in
-    record { line = sym (written_full _ _ _ (omega (arith, length_hex c.args.v))); place = sym (place_after_full _ _ _ (omega (arith, length_hex c.args.v))); }
+    record { line = sym (written_full _ _ _ (omega (arith, length_hex c.args.v))); place = sym (place_after_full _ _ _ (omega (arith, length_hex c.args.v))) }
 
 pub overflow_add-end : goal.overflow_add-end
 overflow_add-end c = let h : c.args.at + 16 ≤ length c.args.line.now = leb-true _ _ (sym c.has_room.ensures ∙ c.if-not-has_room.false) in omega arith
@@ -27,11 +27,11 @@ bounds-line-i c = let h : c.args.at + 16 ≤ length c.args.line.now = leb-true _
 
 pub loop-i-preserved : goal.loop-i-preserved
 loop-i-preserved c = (
-      omega arith,
-      omega arith,
-      length-set c.loop-i.line (c.loop-i.i - 1) c.last_hex.result ∙ c.loop-i.invariant.2,
-      rw c.last_hex.ensures (digit_put 16 c.loop-i.line c.args.at c.loop-i.i c.loop-i.rest c.loop-i-test.true ∙ c.loop-i.invariant.3),
-    )
+  omega arith,
+  omega arith,
+  length-set c.loop-i.line (c.loop-i.i - 1) c.last_hex.result ∙ c.loop-i.invariant.2,
+  rw c.last_hex.ensures (digit_put 16 c.loop-i.line c.args.at c.loop-i.i c.loop-i.rest c.loop-i-test.true ∙ c.loop-i.invariant.3),
+)
 
 pub shape_of-line : goal.shape_of-line
 shape_of-line c = c.loop-i.invariant.2
@@ -40,6 +40,9 @@ pub returns : goal.returns
 unfolding hex16
 returns c = let h : c.args.at + 16 ≤ length c.args.line.now = leb-true _ _ (sym c.has_room.ensures ∙ c.if-not-has_room.false) in
     let fits : c.args.at + length (hex16 c.args.v) ≤ length c.args.line.now = omega (arith, length_hex c.args.v) in
-    record { line = sym (digits_put 16 c.loop-i.line c.args.at c.loop-i.i c.loop-i.rest c.loop-i-test.false)
+    record {
+      line = sym (digits_put 16 c.loop-i.line c.args.at c.loop-i.i c.loop-i.rest c.loop-i-test.false)
           ∙ c.loop-i.invariant.3
-          ∙ sym (written-fits c.args.line.now c.args.at (hex16 c.args.v) fits); place = rw (place_after-fits c.args.line.now c.args.at (hex16 c.args.v) fits, length_hex c.args.v); }
+          ∙ sym (written-fits c.args.line.now c.args.at (hex16 c.args.v) fits);
+      place = rw (place_after-fits c.args.line.now c.args.at (hex16 c.args.v) fits, length_hex c.args.v);
+    }
