@@ -1,9 +1,10 @@
--- A buffer that is filled part by part: what its start is after one more part.
+-- A buffer that is filled part by part: what its start is after one more part, and what the reader has lost.
 use Rattle.std.proofs.Common.{◌≡◌, ℕ, ◌+◌, ◌-◌, ◌≤◌, List, ◌++◌, arith, length, take, slice_range, sym, ap, ◌∙◌, subst, le_refl, drop_at, length-take-le}
-use Rattle.std.specs.Prelude.{Option}
+use Rattle.std.specs.Prelude.{Option, Result, Ok, Err, OnErr}
 use Rattle.std.proofs.lemmas.Slice.{take-put_mid_below}
 use Rattle.std.specs.Io.KnownBytes.{Consumes, Keeps}
 use Rattle.std.proofs.KnownBytes.{Consumes-trans, Consumes-kept}
+use Rattle.stream.specs.Stream.{Leaves, Loses}
 use borrow.Rule.Slice.PartMut.{put_mid, post_of}
 use lib.Seq.{take-add, take-append-le}
 
@@ -29,3 +30,11 @@ filled_more before mid after a k n xs ys within fits first second =
 pub filled_same : (before mid after : Option (List ℕ)) (a k : ℕ) (xs ys : List ℕ) → a ≤ length xs → Consumes before mid (take a xs) → Keeps mid after → Consumes before after (take a (put_mid a k xs ys))
 filled_same before mid after a k xs ys within first kept =
     subst (Consumes before after) (sym (take-put_mid_below _ _ _ _ _ (le_refl _) within)) (Consumes-kept before mid after _ first kept)
+
+-- What was lost before a second filling that failed, and by it, was lost from the start.
+pub both_lost : (before mid after : Option (List ℕ)) (bytes buf : List ℕ) → Consumes before mid bytes → Leaves mid after buf → Loses before after
+both_lost before mid after bytes buf first second = (bytes ++ take second.0 buf, Consumes-trans before mid after _ _ first second.2)
+
+pub on_err : {T E P : Type 0} (r : Result T E) → P → OnErr r P
+on_err (Ok x) p = tt
+on_err (Err e) p = p

@@ -19,6 +19,10 @@ Lies (Plan n) line = IsPrefixLen n line
 abbrev pub Leaves : (before after : Option (List ℕ)) → (buf : List ℕ) → Type 0
 Leaves before after buf = (n : ℕ) × (n ≤ length buf) × Consumes before after (take n buf)
 
+-- The reader has lost its bytes up to some place, and none behind it.
+abbrev pub Loses : (before after : Option (List ℕ)) → Type 0
+Loses before after = (bytes : List ℕ) × Consumes before after bytes
+
 -- The word of a plan's length, which stands in front of it.
 abbrev pub size_word : List ℕ → ℕ
 size_word bytes = get_or (words (take 4 bytes)) 0 0
