@@ -2,8 +2,8 @@
 // terminal shows for it.
 #![tactic(auto)]
 
-ghost use Rattle.std.specs.Prelude.{◌≡◌, ◌⊎◌, IfOk, OnErr};
-ghost use Rattle.replayed.specs.Replayed.{Replayed, Shows};
+ghost use Rattle.std.specs.Prelude.{IfOk, OnErr};
+ghost use Rattle.replayed.specs.Replayed.{Replayed, Failed, Prints};
 
 use std::io;
 use std::io::{Read, Write};
@@ -28,10 +28,15 @@ fn main(rt: HostRuntime) -> io::Result<()> {
 }
 
 // Prints what is shown for one plan, unless the input has ended.
-fn replay_one<R: Read, W: Write>(input: &mut R, out: &mut W, plan: &mut [u8], text: &mut [u8]) -> io::Result<bool>
+fn replay_one<R: Read, W: Write>(
+    input: &mut R,
+    out: &mut W,
+    plan: &mut [u8],
+    text: &mut [u8],
+) -> io::Result<bool>
     ensures ok { IfOk result (λ went_on. Replayed went_on plan.new text.old text.new) }
-    ensures printed { IfOk result (λ went_on. Prints went_on (R.remaining input.old) (W.contents out.old) (W.contents out.new)) }
-    ensures err { OnErr result (text.new ≡ text.old ⊎ Shows plan.new text.old text.new) }
+    ensures printed { IfOk result (λ went_on. Prints went_on (R.remaining input.old) (R.remaining input.new) plan.new text.old (W.contents out.old) (W.contents out.new)) }
+    ensures err { OnErr result (Failed plan.new text.old text.new) }
 {
     let Next::Plan(n) = stream::next_plan(input, plan)? else {
         return Ok(false);
