@@ -3,53 +3,52 @@
 #![tactic(auto)]
 
 use reader::Answer;
+use std::io;
+use std::io::{Read, Write};
 use stream::Next;
 
-fn main() {
-    let mut space = io::large_buffer();
+fn main(rt: HostRuntime) -> io::Result<()> {
+    let mut input = rt.stdin();
+    let mut out = rt.stdout();
+    let mut space = [0u8; 65536];
     let plan: &mut [u8] = &mut space;
     // So many plans are enough for any run.
     let mut left: usize = 100_000_000;
     while 0 < left {
         left -= 1;
-        if !take_one(plan) {
-            return;
+        if !take_one(&mut input, &mut out, plan)? {
+            return Ok(());
         }
     }
+    Ok(())
 }
 
 // Takes in one plan, unless the input has ended. No accepted plan fills the buffer.
-fn take_one(plan: &mut [u8]) -> bool {
-    let Next::Plan(n) = stream::next_plan(plan) else {
-        return false;
+fn take_one<R: Read, W: Write>(input: &mut R, out: &mut W, plan: &mut [u8]) -> io::Result<bool> {
+    let Next::Plan(n) = stream::next_plan(input, plan)? else {
+        return Ok(false);
     };
-    show(&plan[..n]);
-    true
+    show(out, &plan[..n])?;
+    Ok(true)
 }
 
-fn show(plan: &[u8]) {
+fn show<W: Write>(out: &mut W, plan: &[u8]) -> io::Result<()> {
     let mut room = intake::table_room();
     let table: &mut [usize] = &mut room;
     let r = intake::take_in(plan, table);
     let answer = r.answer;
     match answer {
-        Answer::No(number, place) => {
-            line(b"refused ", number as u64, place as u64);
-        }
+        Answer::No(number, place) => { line(out, "refused", number as u64, place as u64) }
         Answer::Accepted => {
             let k = r.known;
-            io::write_all(1, b"accepted ");
-            io::print_decimal(1, k.tasks as u64);
-            line(b" ", k.activities as u64, k.machines as u64);
+            let tasks = k.tasks;
+            write!(out, "accepted {tasks}")?;
+            line(out, "", k.activities as u64, k.machines as u64)
         }
     }
 }
 
 // A word and two numbers.
-fn line(word: &[u8], a: u64, b: u64) {
-    io::write_all(1, word);
-    io::print_decimal(1, a);
-    io::write_all(1, b" ");
-    io::print_decimal(1, b);
-    io::write_all(1, b"\n");
+fn line<W: Write>(out: &mut W, word: &str, a: u64, b: u64) -> io::Result<()> {
+    writeln!(out, "{word} {a} {b}")
 }

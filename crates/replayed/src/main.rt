@@ -2,12 +2,17 @@
 // terminal shows for it.
 #![tactic(auto)]
 
-ghost use Rattle.replayed.specs.Replayed.{Replayed};
+ghost use Rattle.std.specs.Prelude.{IfOk, OnErr};
+ghost use Rattle.replayed.specs.Replayed.{Replayed, Failed, Prints};
 
+use std::io;
+use std::io::{Read, Write};
 use stream::Next;
 
-fn main() {
-    let mut space = io::large_buffer();
+fn main(rt: HostRuntime) -> io::Result<()> {
+    let mut input = rt.stdin();
+    let mut out = rt.stdout();
+    let mut space = [0u8; 65536];
     let plan: &mut [u8] = &mut space;
     let mut room = [0u8; 16384];
     let text: &mut [u8] = &mut room;
@@ -15,20 +20,28 @@ fn main() {
     let mut left: usize = 100_000_000;
     while 0 < left {
         left -= 1;
-        if !replay_one(plan, text) {
-            return;
+        if !replay_one(&mut input, &mut out, plan, text)? {
+            return Ok(());
         }
     }
+    Ok(())
 }
 
 // Prints what is shown for one plan, unless the input has ended.
-fn replay_one(plan: &mut [u8], text: &mut [u8]) -> bool
-    ensures { Replayed result plan.new text.old text.new }
+fn replay_one<R: Read, W: Write>(
+    input: &mut R,
+    out: &mut W,
+    plan: &mut [u8],
+    text: &mut [u8],
+) -> io::Result<bool>
+    ensures ok { IfOk result (λ went_on. Replayed went_on plan.new text.old text.new) }
+    ensures printed { IfOk result (λ went_on. Prints went_on (R.remaining input.old) (R.remaining input.new) plan.new text.old (W.contents out.old) (W.contents out.new)) }
+    ensures err { OnErr result (Failed plan.new text.old text.new) }
 {
-    let Next::Plan(n) = stream::next_plan(plan) else {
-        return false;
+    let Next::Plan(n) = stream::next_plan(input, plan)? else {
+        return Ok(false);
     };
     let shown = terminal_text::show(&plan[..n], text);
-    io::write_all(1, &text[..shown]);
-    true
+    out.write_all(&text[..shown])?;
+    Ok(true)
 }

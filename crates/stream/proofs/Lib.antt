@@ -1,1 +1,2 @@
 pub mod StreamLaws
+mod Filling

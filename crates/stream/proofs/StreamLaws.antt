@@ -2,8 +2,7 @@
 use Prim.Native.Nat.{ℕ}
 use mathlib.Core.Path.{◌≡◌, subst}
 use mathlib.Core.List.{List}
-use Rattle.io.specs.Counts.{IsPrefixLen}
-use Rattle.stream.specs.Stream.{Lies}
+use Rattle.stream.specs.Stream.{IsPrefixLen, Lies}
 use Rattle.stream.specs.declared.Next.{Next}
 use Rattle.stream.specs.declared.Next.TheVariants.{Plan}
 

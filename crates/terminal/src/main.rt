@@ -5,17 +5,25 @@
 // the latest, is the refusal of the whole.
 #![tactic(auto)]
 
-fn main() {
-    let mut space = io::large_buffer();
+use std::io;
+use std::io::{Read, Write};
+
+fn main(rt: HostRuntime) -> io::Result<()> {
+    let mut space = [0u8; 65536];
     let plan: &mut [u8] = &mut space;
     let mut room = [0u8; 16384];
     let text: &mut [u8] = &mut room;
-    serve(plan, text);
+    serve(&mut rt.stdin(), &mut rt.stdout(), plan, text)
 }
 
 // Reads one plan, and prints what is shown for it.
-fn serve(plan: &mut [u8], text: &mut [u8]) {
-    let length = io::read_full(0, plan);
+fn serve<R: Read, W: Write>(
+    input: &mut R,
+    out: &mut W,
+    plan: &mut [u8],
+    text: &mut [u8],
+) -> io::Result<()> {
+    let length = stream::read_full(input, plan)?;
     let shown = terminal_text::show(&plan[..length], text);
-    io::write_all(1, &text[..shown]);
+    out.write_all(&text[..shown])
 }

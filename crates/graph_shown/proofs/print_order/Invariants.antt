@@ -3,7 +3,7 @@ use Prim.Native.Nat.{◌≤◌, ◌-◌}
 use Rattle.graph_shown.proofs.print_order.Given as goal
 
 abbrev pub invariant-loop-i : goal.invariant-loop-i
-invariant-loop-i l = i ≤ l.named
+invariant-loop-i g l = l.i ≤ l.named
 
 abbrev pub decreases-loop-i : goal.decreases-loop-i
-decreases-loop-i l = l.named - i
+decreases-loop-i g l = l.named - l.i

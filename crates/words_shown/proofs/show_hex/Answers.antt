@@ -2,17 +2,14 @@
 use Prim.Native.Nat.{◌≤◌}
 use mathlib.Core.Path.{sym}
 use native.Mathlib.Omega.{arith}
-use lib.ListN.{length}
 use lib.Seq.{length-take-le}
 use Rattle.words.proofs.TextLaws.{put_within}
 use Rattle.words_shown.proofs.show_hex.Goals as goal
 
-within : (c : goal.After-line-4-1) → c.put_byte-end.result ≤ length c.put_byte-end.new.line
-within c =
+pub slice_bounds-line-end : goal.slice_bounds-line-end
+slice_bounds-line-end g c =
     put_within _ _ _ (put_within _ 0 _ (omega arith) c.put_hex-digits.ensures.line c.put_hex-digits.ensures.place) c.put_byte-end.ensures.line c.put_byte-end.ensures.place
 
-pub slice_bounds-line-end : goal.slice_bounds-line-end
-slice_bounds-line-end c = within c
-
 pub slice_bounds-write_all-end : goal.slice_bounds-write_all-end
-slice_bounds-write_all-end c = sym (length-take-le _ _ (within c))
+slice_bounds-write_all-end g c =
+    sym (length-take-le _ _ (put_within _ _ _ (put_within _ 0 _ (omega arith) c.put_hex-digits.ensures.line c.put_hex-digits.ensures.place) c.put_byte-end.ensures.line c.put_byte-end.ensures.place))
