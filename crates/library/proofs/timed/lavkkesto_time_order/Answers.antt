@@ -4,4 +4,4 @@ use Rattle.library.specs.Code.{code_of}
 use Rattle.library.proofs.timed.lavkkesto_time_order.Goals as goal
 
 pub returns : goal.returns
-returns c = record { answer = c.code_of.ensures ∙ ap code_of c.time_order-a.ensures.answer; rows = c.time_order-a.ensures.rows; }
+returns c = record { answer = c.code_of.ensures ∙ ap code_of c.time_order-a.ensures.answer; rows = c.time_order-a.ensures.rows }
