@@ -1,5 +1,5 @@
 # shellcheck shell=sh
-# What the scripts that call the proved library share. They read it at the repository's root.
+# What the scripts that call the proved library or programs share. They read it at the repository's root.
 
 archive=target/staticlib/liblibrary.a
 # A relative folder is seen from where the script was called.
@@ -51,11 +51,37 @@ build() {
     exit 2
 }
 
-# The archive, unless nothing in the crates is younger than it.
+# Whether something is there, and nothing that the crates are made of is younger.
+is_current() {
+    [ -e "$1" ] && [ -z "$(find crates.txt crates/*/src crates/*/specs crates/*/proofs -newer "$1" | head -n 1)" ]
+}
+
+# The archive, unless nothing in the crates is younger than it. It goes by the name of the crate whose calls it has.
 make_archive() {
-    if [ ! -f "$archive" ] || [ -n "$(find crates crates.txt -newer "$archive" | head -n 1)" ]; then
-        rt staticlib library
-    fi
+    is_current "$archive" && return
+    made=crates/library_c/out/liblibrary_c.a
+    over_the_gate || (cd crates/library_c && rt lib) || return
+    mkdir -p "$(dirname "$archive")" && cp "$made" "$archive"
+}
+
+# `rt ci` leaves each library in its crate's out/, without the mark that `rt lib` asks of one, so that would prove each anew. Where all
+# that library_c uses were left by now and nothing in the crates is younger, library_c alone is proved here, and compiled over them.
+over_the_gate() {
+    kit=$(dirname "$(rt doc)")
+    uses=$(sed -n 's/^library_c staticlib://p' crates.txt)
+    set -- --extern "core=$kit/rlibs/core.rlib" --extern "std=$kit/rlibs/std.rlib" -L "dependency=$kit/rlibs"
+    for name in $uses; do
+        is_current "crates/$name/out/rlib/$name.rlib" || return
+        set -- "$@" --extern "$name=../$name/out/rlib/$name.rlib"
+    done
+    (cd crates/library_c && mkdir -p out && rattle build --crate-name library_c --crate-type staticlib src/lib.rt "$@" --toolchain "$kit/toolchain" \
+        --antt-project "$kit/rattle/logic/antt-project.json" --logic-built "$kit/logic_built" --backend llvm -o out/liblibrary_c.a)
+}
+
+# The program of a crate, crates/NAME/out/NAME, unless nothing in the crates is younger than it. `rt run` also runs it, once.
+make_program() {
+    is_current "crates/$1/out/$1" && return
+    (cd "crates/$1" && rt run <stdin && touch "out/$1") || is_current "crates/$1/out/$1"
 }
 
 # A program in C with the library.

@@ -1,4 +1,4 @@
-/* The calls of the archive that `rt staticlib library` makes, for programs in C on x86-64. docs/CALLS.md says what each takes, answers and leaves.
+/* The calls of the archive that `compare/archive` makes, for programs in C on x86-64. docs/CALLS.md says what each takes, answers and leaves.
    A slice is a pointer and a count of elements; the memory behind it is the caller's, and slices that are written must not overlap others. */
 #ifndef LAVKKESTO_H
 #define LAVKKESTO_H

@@ -30,7 +30,7 @@ fn link(calls: &[String]) -> Result<(), String> {
     let archive = match env::var_os("LAVKKESTO_LIB") {
         Some(archive) if !archive.is_empty() => PathBuf::from(archive),
         _ if may_lack => return Ok(()),
-        _ => return Err("LAVKKESTO_LIB must name the archive that `rt staticlib library` writes".to_string()),
+        _ => return Err("LAVKKESTO_LIB must name the archive that `compare/archive` writes".to_string()),
     };
     let name = archive.file_name().and_then(|name| name.to_str());
     let name = name.and_then(|name| name.strip_prefix("lib")).and_then(|name| name.strip_suffix(".a"));

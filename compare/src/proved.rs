@@ -81,7 +81,7 @@ impl Library {
                 Err(format!("the archive that LAVKKESTO_LIB names has no {call}"))
             }
             Some(_) => Err("built without the proved library: LAVKKESTO_LIB names the archive that \
-                            `rt staticlib library` writes, target/staticlib/liblibrary.a"
+                            `compare/archive` writes, target/staticlib/liblibrary.a"
                 .to_string()),
         }
     }

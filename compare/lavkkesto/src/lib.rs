@@ -1,5 +1,5 @@
 //! The calls of the proved library for programs in Rust: slices in, an answer out, nothing unsafe for the caller. A plan
-//! is the bytes of its stored form. LAVKKESTO_LIB names the archive when this is built; `rt staticlib library` writes it.
+//! is the bytes of its stored form. LAVKKESTO_LIB names the archive when this is built; `compare/archive` writes it.
 //! docs/CALLS.md says what each call takes, answers and leaves.
 
 use std::fmt;

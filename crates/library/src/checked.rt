@@ -17,8 +17,7 @@ fn check_code(a: Checked) -> [u64; 3]
     }
 }
 
-#[unsafe(no_mangle)]
-pub extern "C" fn lavkkesto_check(s: &[u8], rows: &[i64], code: &mut [u64; 3])
+pub fn lavkkesto_check(s: &[u8], rows: &[i64], code: &mut [u64; 3])
     ensures { code.new ≡ check_code (checked s.now rows.now) }
 {
     let a = checking::check(s, rows);

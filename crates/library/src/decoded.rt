@@ -6,8 +6,7 @@ ghost use Rattle.library.specs.Code.{code_of};
 
 use crate::code_of;
 
-#[unsafe(no_mangle)]
-pub extern "C" fn lavkkesto_in_order(
+pub fn lavkkesto_in_order(
     s: &[u8],
     activities: &mut [usize],
     machines: &mut [usize],
@@ -23,8 +22,7 @@ pub extern "C" fn lavkkesto_in_order(
     *code = code_of(a);
 }
 
-#[unsafe(no_mangle)]
-pub extern "C" fn lavkkesto_active(
+pub fn lavkkesto_active(
     s: &[u8],
     activities: &mut [usize],
     machines: &mut [usize],
@@ -40,8 +38,7 @@ pub extern "C" fn lavkkesto_active(
     *code = code_of(a);
 }
 
-#[unsafe(no_mangle)]
-pub extern "C" fn lavkkesto_decode(
+pub fn lavkkesto_decode(
     s: &[u8],
     activities: &mut [usize],
     machines: &mut [usize],

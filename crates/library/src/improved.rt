@@ -19,8 +19,7 @@ fn improve_code(a: Answer) -> [u64; 3]
     }
 }
 
-#[unsafe(no_mangle)]
-pub extern "C" fn lavkkesto_improve(
+pub fn lavkkesto_improve(
     s: &[u8],
     cells: &mut [usize],
     tasks: &mut [usize],

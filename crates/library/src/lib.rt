@@ -1,11 +1,11 @@
-// The calls for programs in C and Rust. A slice crosses as a pointer and a length, and an answer as numbers.
+// The calls for programs in C and Rust, which `library_c` exports. An answer is told as numbers.
 #![tactic(auto)]
 
-mod checked;
-mod decoded;
-mod improved;
-mod looked;
-mod timed;
+pub mod checked;
+pub mod decoded;
+pub mod improved;
+pub mod looked;
+pub mod timed;
 
 ghost use Rattle.std.specs.Prelude.{◌≡◌};
 ghost use Rattle.library.specs.Code.{code_of};

@@ -23,8 +23,7 @@ fn look_code(a: Answer) -> [u64; 7]
     }
 }
 
-#[unsafe(no_mangle)]
-pub extern "C" fn lavkkesto_look(
+pub fn lavkkesto_look(
     s: &[u8],
     cells: &[usize],
     lens: &[usize; 16],

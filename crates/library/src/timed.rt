@@ -6,8 +6,7 @@ ghost use Rattle.library.specs.Code.{code_of};
 
 use crate::code_of;
 
-#[unsafe(no_mangle)]
-pub extern "C" fn lavkkesto_time(
+pub fn lavkkesto_time(
     s: &[u8],
     cells: &[usize],
     lens: &[usize; 16],
@@ -28,8 +27,7 @@ pub extern "C" fn lavkkesto_time(
     *code = code_of(a);
 }
 
-#[unsafe(no_mangle)]
-pub extern "C" fn lavkkesto_time_order(
+pub fn lavkkesto_time_order(
     s: &[u8],
     activities: &mut [usize],
     machines: &mut [usize],
@@ -45,13 +43,7 @@ pub extern "C" fn lavkkesto_time_order(
     *code = code_of(a);
 }
 
-#[unsafe(no_mangle)]
-pub extern "C" fn lavkkesto_time_again(
-    s: &[u8],
-    cells: &[usize],
-    lens: &[usize; 16],
-    times: usize,
-) -> u64
+pub fn lavkkesto_time_again(s: &[u8], cells: &[usize], lens: &[usize; 16], times: usize) -> u64
     ensures { result ≡ timed_again s.now cells.now lens.now times }
 {
     let lengths = *lens;
