@@ -1,7 +1,6 @@
 -- What one call leaves: the text that is shown for what was read to the start of the buffer, which is all of the input or as much as has room.
 -- Where the bytes of the reader and the writer are known, just these bytes were read, and just that text was printed.
-use Rattle.std.specs.Prelude.{ℕ, ◌<◌, ◌≤◌, ◌≡◌, List, length, take}
-use Rattle.core.specs.declared.option.Option.{Option}
+use Rattle.std.specs.Prelude.{ℕ, ◌<◌, ◌≤◌, ◌≡◌, List, length, take, Option}
 use Rattle.std.specs.Io.KnownBytes.{Appends, Consumes, IsAtEnd}
 use Rattle.terminal_text.specs.Shown.{shown_over, shown_length}
 
