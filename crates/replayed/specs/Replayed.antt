@@ -1,7 +1,6 @@
 -- What one turn leaves: the text that the terminal shows for a plan at the start of the buffer; or the text as it was, where the input has
 -- ended. Where the bytes of the reader and the writer are known, the plan is what was read, and just its text was printed.
-use Rattle.std.specs.Prelude.{ℕ, ◌≤◌, ◌≡◌, ◌⊎◌, Bool, true, false, List, length, take, IfSome}
-use Rattle.core.specs.declared.option.Option.{Option}
+use Rattle.std.specs.Prelude.{ℕ, ◌≤◌, ◌≡◌, ◌⊎◌, Bool, true, false, List, length, take, IfSome, Option}
 use Rattle.std.specs.Io.KnownBytes.{Appends, Keeps}
 use Rattle.stream.specs.Stream.{HasRead, HoldsNone}
 use Rattle.terminal_text.specs.Shown.{shown_over, shown_length}

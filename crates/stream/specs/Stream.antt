@@ -1,7 +1,6 @@
 -- What is known of the next plan of a stream: its length is within the buffer; and where the reader's bytes are known, it is the bytes that
 -- follow the word of its length.
-use Rattle.std.specs.Prelude.{List, ℕ, ◌≡◌, ◌+◌, ◌<◌, ◌≤◌, ◌⊎◌, ◌++◌, length, take, get_or, IfSome}
-use Rattle.core.specs.declared.option.Option.{Option}
+use Rattle.std.specs.Prelude.{List, ℕ, ◌≡◌, ◌+◌, ◌<◌, ◌≤◌, ◌⊎◌, ◌++◌, length, take, get_or, IfSome, Option}
 use Rattle.std.specs.Io.KnownBytes.{Consumes}
 use Rattle.words.specs.Words.{words}
 use Rattle.stream.specs.declared.Next.{Next}

@@ -5,6 +5,9 @@
 // the latest, is the refusal of the whole.
 #![tactic(auto)]
 
+ghost use Rattle.std.specs.Prelude.{OnOk};
+ghost use Rattle.terminal.specs.Served.{Serves};
+
 use std::io;
 use std::io::{Read, Write};
 
@@ -22,7 +25,9 @@ fn serve<R: Read, W: Write>(
     out: &mut W,
     plan: &mut [u8],
     text: &mut [u8],
-) -> io::Result<()> {
+) -> io::Result<()>
+    ensures { OnOk result (Serves (R.remaining input.old) (R.remaining input.new) plan.new text.old text.new (W.contents out.old) (W.contents out.new)) }
+{
     let length = stream::read_full(input, plan)?;
     let shown = terminal_text::show(&plan[..length], text);
     out.write_all(&text[..shown])
