@@ -74,8 +74,9 @@ over_the_gate() {
         is_current "crates/$name/out/rlib/$name.rlib" || return
         set -- "$@" --extern "$name=../$name/out/rlib/$name.rlib"
     done
-    (cd crates/library_c && mkdir -p out && rattle build --crate-name library_c --crate-type staticlib src/lib.rt "$@" --toolchain "$kit/toolchain" \
-        --antt-project "$kit/rattle/logic/antt-project.json" --logic-built "$kit/logic_built" --backend llvm -o out/liblibrary_c.a)
+    set -- "$@" --antt-project "$kit/rattle/logic/antt-project.json" --logic-built "$kit/logic_built" --toolchain "$kit/toolchain"
+    (cd crates/library_c && mkdir -p out && "$kit/bin/rattle" build --crate-name library_c --crate-type staticlib src/lib.rt "$@" \
+        --backend llvm -o out/liblibrary_c.a)
 }
 
 # The program of a crate, crates/NAME/out/NAME, unless nothing in the crates is younger than it. `rt run` also runs it, once.
