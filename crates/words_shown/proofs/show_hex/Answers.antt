@@ -1,5 +1,4 @@
 -- `words_shown::show_hex` meets its contract: what is written to the output is within the line.
-use Prim.Native.Nat.{◌≤◌}
 use mathlib.Core.Path.{sym}
 use native.Mathlib.Omega.{arith}
 use lib.Seq.{length-take-le}
