@@ -24,5 +24,5 @@ printed_text plan text₀ = take (shown_length plan text₀) (shown_over plan te
 
 abbrev pub Prints : (went_on : Bool) → (unread₀ unread : Option (List ℕ)) → (plan text₀ : List ℕ) → (written₀ written : Option (List ℕ)) → Type 0
 Prints true unread₀ unread plan text₀ written₀ written =
-    (size : ℕ) × HasRead unread₀ unread size plan × Appends written₀ written (printed_text (take size plan) text₀)
+    (size : ℕ) × (size ≤ length plan) × HasRead unread₀ unread size plan × Appends written₀ written (printed_text (take size plan) text₀)
 Prints false unread₀ unread plan text₀ written₀ written = IfSome unread₀ (HoldsNone (length plan)) × Keeps written₀ written
