@@ -3,6 +3,7 @@
 #![tactic(auto)]
 
 ghost use Rattle.std.specs.Prelude.{IfOk, OnErr};
+ghost use Rattle.stream.specs.Stream.{Loses};
 ghost use Rattle.replayed.specs.Replayed.{Replayed, Failed, Prints};
 
 use std::io;
@@ -37,6 +38,7 @@ fn replay_one<R: Read, W: Write>(
     ensures ok { IfOk result (λ went_on. Replayed went_on plan.new text.old text.new) }
     ensures printed { IfOk result (λ went_on. Prints went_on (R.remaining input.old) (R.remaining input.new) plan.new text.old (W.contents out.old) (W.contents out.new)) }
     ensures err { OnErr result (Failed plan.new text.old text.new) }
+    ensures lost { OnErr result (Loses (R.remaining input.old) (R.remaining input.new)) }
 {
     let Next::Plan(n) = stream::next_plan(input, plan)? else {
         return Ok(false);

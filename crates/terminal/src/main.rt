@@ -5,8 +5,8 @@
 // the latest, is the refusal of the whole.
 #![tactic(auto)]
 
-ghost use Rattle.std.specs.Prelude.{OnOk};
-ghost use Rattle.terminal.specs.Served.{Serves};
+ghost use Rattle.std.specs.Prelude.{OnOk, OnErr};
+ghost use Rattle.terminal.specs.Served.{Serves, Fails};
 
 use std::io;
 use std::io::{Read, Write};
@@ -19,14 +19,15 @@ fn main(rt: HostRuntime) -> io::Result<()> {
     serve(&mut rt.stdin(), &mut rt.stdout(), plan, text)
 }
 
-// Reads one plan, and prints what is shown for it.
+// Reads one plan, and prints what is shown for it. A read or a write that fails ends it with that error; what was written then is open.
 fn serve<R: Read, W: Write>(
     input: &mut R,
     out: &mut W,
     plan: &mut [u8],
     text: &mut [u8],
 ) -> io::Result<()>
-    ensures { OnOk result (Serves (R.remaining input.old) (R.remaining input.new) plan.new text.old text.new (W.contents out.old) (W.contents out.new)) }
+    ensures ok { OnOk result (Serves (R.remaining input.old) (R.remaining input.new) plan.new text.old text.new (W.contents out.old) (W.contents out.new)) }
+    ensures err { OnErr result (Fails (R.remaining input.old) (R.remaining input.new) plan.new text.old text.new) }
 {
     let length = stream::read_full(input, plan)?;
     let shown = terminal_text::show(&plan[..length], text);
