@@ -2,6 +2,9 @@
 // for each: what the terminal would show where it refuses it, else how many tasks, activities and machines it has.
 #![tactic(auto)]
 
+ghost use Rattle.std.specs.Prelude.{OnErr};
+ghost use Rattle.stream.specs.Stream.{Loses};
+
 use reader::Answer;
 use std::io;
 use std::io::{Read, Write};
@@ -24,7 +27,9 @@ fn main(rt: HostRuntime) -> io::Result<()> {
 }
 
 // Takes in one plan, unless the input has ended. No accepted plan fills the buffer.
-fn take_one<R: Read, W: Write>(input: &mut R, out: &mut W, plan: &mut [u8]) -> io::Result<bool> {
+fn take_one<R: Read, W: Write>(input: &mut R, out: &mut W, plan: &mut [u8]) -> io::Result<bool>
+    ensures { OnErr result (Loses (R.remaining input.old) (R.remaining input.new)) }
+{
     let Next::Plan(n) = stream::next_plan(input, plan)? else {
         return Ok(false);
     };

@@ -3,7 +3,7 @@
 use Rattle.std.specs.Prelude.{ℕ, ◌≤◌, ◌≡◌, ◌⊎◌, Bool, true, false, List, length, take, IfSome, Option}
 use Rattle.std.specs.Io.KnownBytes.{Appends, Keeps}
 use Rattle.stream.specs.Stream.{HasRead, HoldsNone}
-use Rattle.terminal_text.specs.Shown.{shown_over, shown_length}
+use Rattle.terminal_text.specs.Shown.{shown_over, printed_text}
 
 pub record Shows (plan text₀ text : List ℕ) : Type 0 where
   pub size : ℕ
@@ -17,10 +17,6 @@ Replayed false plan text₀ text = text ≡ text₀
 -- What an error leaves: the text as it was, where the reading failed, or what would have been printed.
 abbrev pub Failed : (plan text₀ text : List ℕ) → Type 0
 Failed plan text₀ text = (text ≡ text₀) ⊎ Shows plan text₀ text
-
--- The text that is printed for a plan.
-abbrev pub printed_text : (plan text₀ : List ℕ) → List ℕ
-printed_text plan text₀ = take (shown_length plan text₀) (shown_over plan text₀)
 
 abbrev pub Prints : (went_on : Bool) → (unread₀ unread : Option (List ℕ)) → (plan text₀ : List ℕ) → (written₀ written : Option (List ℕ)) → Type 0
 Prints true unread₀ unread plan text₀ written₀ written =

@@ -3,14 +3,10 @@
 use Rattle.std.specs.Prelude.{ℕ, ◌<◌, ◌≤◌, ◌≡◌, ◌⊎◌, List, length, take, Option}
 use Rattle.std.specs.Io.KnownBytes.{Appends, Consumes, IsAtEnd}
 use Rattle.stream.specs.Stream.{Loses}
-use Rattle.terminal_text.specs.Shown.{shown_over, shown_length}
+use Rattle.terminal_text.specs.Shown.{shown_over, printed_text}
 
 abbrev pub ReadsAll : (unread₀ unread : Option (List ℕ)) → (size : ℕ) → (plan : List ℕ) → Type 0
 ReadsAll unread₀ unread size plan = Consumes unread₀ unread (take size plan) × (size < length plan → IsAtEnd unread)
-
--- The text that is printed for a plan.
-abbrev pub printed_text : (plan text₀ : List ℕ) → List ℕ
-printed_text plan text₀ = take (shown_length plan text₀) (shown_over plan text₀)
 
 abbrev pub Serves : (unread₀ unread : Option (List ℕ)) → (plan text₀ text : List ℕ) → (written₀ written : Option (List ℕ)) → Type 0
 Serves unread₀ unread plan text₀ text written₀ written =

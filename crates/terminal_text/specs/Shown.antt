@@ -56,3 +56,7 @@ shown_over s out = cond (leb enough (length out)) (written out 0 (shown s)) out
 
 abbrev pub shown_length : (bytes out : List ℕ) → ℕ
 shown_length s out = cond (leb enough (length out)) (length (shown s)) 0
+
+-- What is printed of the lent buffer: the bytes that `show` answers.
+abbrev pub printed_text : (s out : List ℕ) → List ℕ
+printed_text s out = take (shown_length s out) (shown_over s out)
