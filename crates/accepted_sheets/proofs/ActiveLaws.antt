@@ -1,4 +1,5 @@
 -- The candidates of a scan wait for nobody: their predecessors are settled, and so are the steps that the scan passed to come to them.
+use Rattle.std.specs.Prelude.{None, Option, Some}
 use Prim.Native.Nat.{ℕ, zero, suc, ◌+◌, ◌-◌, ◌≤◌, ◌<◌}
 use mathlib.Core.Path.{◌≡◌, refl, sym, ap, ◌∙◌, subst}
 use mathlib.Core.Bool.{Bool, true, false, not}
@@ -19,8 +20,6 @@ use Rattle.board.specs.Board.{Board, empty_board, sit}
 use Rattle.board.specs.declared.Seat.{Seat}
 use Rattle.in_order.proofs.PendingLaws.{and_true}
 use Rattle.active.specs.Active.{ranks_of, Scan, settled_in, any_unsettled, stops_at, candidate_unless, stop_at, pass_over, scan_steps, scan_from, scan_tasks, scan_of, seat_now, with_settled, scanned, choice_on, place_from, place_active}
-use Rattle.active.specs.declared.Choice.{Choice}
-use Rattle.active.specs.declared.Choice.TheVariants.{Nothing, Sits}
 use Rattle.active.proofs.SeatNowLaws.{seat_by_rule}
 use Rattle.active.proofs.ChoiceLaws.{All, all_map, all_append, chosen_has}
 use Rattle.accepted_sheets.specs.Orderly.{Settled, Orderly, Next}
@@ -138,7 +137,7 @@ module _ {p : Problem} {g : Genes} (ok : Accepted p g) where
 
   -- ---- whoever is chosen is a candidate
 
-  pub chosen_orderly : (ranks : List ℕ) {b : Board} → Orderly p on b → (x : Seat) → choice_on p g ranks b ≡ Sits x → Orderly p on (sit p x (scanned p g b))
+  pub chosen_orderly : (ranks : List ℕ) {b : Board} → Orderly p on b → (x : Seat) → choice_on p g ranks b ≡ Some x → Orderly p on (sit p x (scanned p g b))
   chosen_orderly ranks {b} w x e =
       let seen = scan_scanned b w in
       chosen_has (λ (y : Seat). Orderly p on (sit p y (scanned p g b))) ranks (seat_now p g b.ends b.lines b.steps) (scan_of p g b.settled).candidates x e
@@ -147,11 +146,11 @@ module _ {p : Problem} {g : Genes} (ok : Accepted p g) where
       subst (λ (y : Seat). Orderly p on (sit p y (scanned p g b))) (sym (seat_by_rule p g seen.orderly.sound a)) (sit_orderly ok (assigned_known ok) seen.orderly f.1))
       (scan_of p g b.settled).candidates seen.next)
 
-  from_orderly : (ranks : List ℕ) (fuel : ℕ) (c : Choice) (b : Board) → Orderly p on b → choice_on p g ranks b ≡ c → Orderly p on (place_from p g ranks fuel c (scanned p g b))
+  from_orderly : (ranks : List ℕ) (fuel : ℕ) (c : Option Seat) (b : Board) → Orderly p on b → choice_on p g ranks b ≡ c → Orderly p on (place_from p g ranks fuel c (scanned p g b))
   unfolding place_from
   from_orderly ranks zero c b w e = (scan_scanned b w).orderly
-  from_orderly ranks (suc fuel) Nothing b w e = (scan_scanned b w).orderly
-  from_orderly ranks (suc fuel) (Sits x) b w e =
+  from_orderly ranks (suc fuel) None b w e = (scan_scanned b w).orderly
+  from_orderly ranks (suc fuel) (Some x) b w e =
       from_orderly ranks fuel (choice_on p g ranks (sit p x (scanned p g b))) (sit p x (scanned p g b)) (chosen_orderly ranks w x e) refl
 
   pub active_orderly : Orderly p on (place_active p g)

@@ -1,19 +1,16 @@
 -- Whoever is taken in order is ready: where everybody is in the order, what it waits for was taken before it, and so is settled.
+use Rattle.std.specs.Prelude.{None, Option, Some, ℕ, unwrap_or}
 use Prim.Native.Nat.{ℕ, zero, suc, ◌+◌, ◌-◌, ◌≤◌, ◌<◌}
 use mathlib.Core.Path.{◌≡◌, refl, sym, ap, ◌∙◌, subst}
 use mathlib.Core.Bool.{Bool, true, false, ◌||◌}
 use mathlib.Core.List.{List, [], ◌∷◌}
 use mathlib.Core.Logic.{inl}
-use mathlib.Core.Option
-use mathlib.Core.Option.{Option, none, some}
 use native.Mathlib.Omega.{arith}
 use borrow.Author.Tests.{eq-eqb, not-true}
 use lib.ListN.{length, get_or, set, replicate, length-set}
 use lib.Seq.{get_or-set_same, get_or-set_other}
 use Rattle.graph.specs.Counting.{count_of, hit, Below}
 use Rattle.graph.specs.Filing.{cons_if}
-use Rattle.graph.specs.declared.Link.{Link}
-use Rattle.graph.specs.declared.Link.TheVariants.{To, Nothing}
 use Rattle.graph.proofs.CountingLaws.{hit-ne, either, below_of, below_more, count_all, sum_to_full}
 use Rattle.graph.proofs.NamingLaws.{zeros_at}
 use Rattle.plan.specs.Problem.{Problem, Genes}
@@ -79,7 +76,7 @@ module _ {p : Problem} {g : Genes} (ok : Accepted p g) where
     pub gone : (q : ℕ) → q < p.n → (get_or pending q 0 ≡ 1 → ⊥) → Settled b q
 
   module _ (activities : List ℕ) (known : Below p.n activities) where
-    ready_next : {pending : List ℕ} {b : Board} → Sorted pending b → (a : ℕ) → first_ready p pending activities ≡ To a → Next p b a
+    ready_next : {pending : List ℕ} {b : Board} → Sorted pending b → (a : ℕ) → first_ready p pending activities ≡ Some a → Next p b a
     ready_next {pending} {b} s a e =
         let f = first_is p pending activities a e in
         let here = below_of p.n a activities known f.0 in
@@ -93,14 +90,14 @@ module _ {p : Problem} {g : Genes} (ok : Accepted p g) where
         }
 
     one_orderly : {b : Board} → Orderly p (assigned_to g) b → (a : ℕ) → Next p b a → (o : Option ℕ) → g.assigned a ≡ o → Orderly p (assigned_to g) (seat_or_settle p g a o b)
-    one_orderly {b} w a next none e = settle_orderly w a next.here next.steps
-    one_orderly {b} w a next (some m) e =
-        let f : assigned_to g a ≡ m = ap (λ (o : Option ℕ). Option.get_or o 0) e in
+    one_orderly {b} w a next None e = settle_orderly w a next.here next.steps
+    one_orderly {b} w a next (Some m) e =
+        let f : assigned_to g a ≡ m = ap (λ (o : Option ℕ). unwrap_or o 0) e in
         subst (λ (k : ℕ). Orderly p (assigned_to g) (sit p (seat p (assigned_to g) b a k) b)) f (sit_orderly ok (assigned_known ok) w next)
 
     one_settled : (b : Board) (a : ℕ) (o : Option ℕ) → (seat_or_settle p g a o b).settled ≡ set b.settled a 1
-    one_settled b a none = refl
-    one_settled b a (some m) = refl
+    one_settled b a None = refl
+    one_settled b a (Some m) = refl
 
     module _ {pending : List ℕ} {b : Board} (s : Sorted pending b) (w : Orderly p (assigned_to g) b) (a : ℕ) (here : a < p.n) (o : Option ℕ) where
       flags : (q : ℕ) → get_or (seat_or_settle p g a o b).settled q 0 ≡ get_or (set b.settled a 1) q 0
@@ -123,12 +120,12 @@ module _ {p : Problem} {g : Genes} (ok : Accepted p g) where
                 (λ ne. stays w a here q (s.gone q h (λ e. f (get_or-set_other pending a q 0 0 (λ y. ne (sym y)) ∙ e))));
           }
 
-    from_orderly : (fuel : ℕ) (pending : List ℕ) (next : Link) (b : Board) → first_ready p pending activities ≡ next → Sorted pending b → Orderly p (assigned_to g) b
+    from_orderly : (fuel : ℕ) (pending : List ℕ) (next : Option ℕ) (b : Board) → first_ready p pending activities ≡ next → Sorted pending b → Orderly p (assigned_to g) b
         → Orderly p (assigned_to g) (sit_all p g (ready_from p activities fuel next pending) b)
     unfolding ready_from sit_all
     from_orderly zero pending next b e s w = w
-    from_orderly (suc fuel) pending Nothing b e s w = w
-    from_orderly (suc fuel) pending (To a) b e s w =
+    from_orderly (suc fuel) pending None b e s w = w
+    from_orderly (suc fuel) pending (Some a) b e s w =
         let next = ready_next s a e in
         from_orderly fuel (set pending a 0) (first_ready p (set pending a 0) activities) (seat_or_settle p g a (g.assigned a) b) refl
         (sorted_again s w a next.here (g.assigned a)) (one_orderly w a next (g.assigned a) refl)

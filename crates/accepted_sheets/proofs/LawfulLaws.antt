@@ -1,4 +1,5 @@
 -- The rows of an orderly board on which everybody is placed are a lawful sheet.
+use Rattle.std.specs.Prelude.{None, Option, Some, ℕ}
 use Prim.Native.Nat.{ℕ, zero, suc, ◌+◌, ◌*◌, ◌≤◌, ◌<◌}
 use mathlib.Core.Path.{◌≡◌, refl, ap, ◌∙◌}
 use mathlib.Core.List.{List, [], ◌∷◌}
@@ -6,8 +7,6 @@ use native.Mathlib.Omega.{arith}
 use lib.ListN.{length, get_or}
 use lib.IntN.{pos}
 use Rattle.graph.specs.Counting.{count_of}
-use Rattle.graph.specs.declared.Link.{Link}
-use Rattle.graph.specs.declared.Link.TheVariants.{To, Nothing}
 use Rattle.graph.proofs.CountingLaws.{hit-eq, below_at, count_all, sum_to_full}
 use Rattle.plan.specs.Problem.{Problem, Genes}
 use Rattle.plan.specs.Accepted.{Accepted}
@@ -68,12 +67,12 @@ module _ {p : Problem} {g : Genes} (ok : Accepted p g) {b : Board} (w : Orderly 
   at_most_once : (a : ℕ) → count_of a b.order ≤ 1
   at_most_once a = omega (arith, w.sound.once a, w.sound.flags a)
 
-  before : (j i : ℕ) → Precedes machine j i → last_before on b.order (machine i) i ≡ To (activity j)
+  before : (j i : ℕ) → Precedes machine j i → last_before on b.order (machine i) i ≡ Some (activity j)
   before j i r = last_is on b.order (machine i) i j r.earlier r.together r.next
 
-  lasts : (i : ℕ) → i < length b.order → (line : Link) → last_before on b.order (machine i) i ≡ line
+  lasts : (i : ℕ) → i < length b.order → (line : Option ℕ) → last_before on b.order (machine i) i ≡ line
       → end_of b (activity i) ≡ start_of b (activity i) + span_from p (activity i) (machine i) line
-  lasts i h line e = (w.each i h).lasts ∙ ap (λ (y : Link). start_of b (activity i) + span_from p (activity i) (machine i) y) e
+  lasts i h line e = (w.each i h).lasts ∙ ap (λ (y : Option ℕ). start_of b (activity i) + span_from p (activity i) (machine i) y) e
 
   placed : (a : ℕ) → a < p.n → count_of a b.order ≡ 1
   placed = sum_to_full p.n (λ a. count_of a b.order) at_most_once (count_all p.n b.order w.sound.known ∙ full)
@@ -91,8 +90,8 @@ module _ {p : Problem} {g : Genes} (ok : Accepted p g) {b : Board} (w : Orderly 
         known = λ i h. (below_at p.n b.order i w.sound.known h, assigned_known ok (activity i));
         once = λ j i l h e. omega (arith, twice b.order j i l h e, at_most_once (activity i));
         in_time = λ i h. ends_within ok.activities.1 w.sound (activity i);
-        lasts-first = λ i h none. lasts i h Nothing (last_none on b.order (machine i) i none);
-        lasts_after = λ j i h r. lasts i h (To (activity j)) (before j i r);
+        lasts-first = λ i h none. lasts i h None (last_none on b.order (machine i) i none);
+        lasts_after = λ j i h r. lasts i h (Some (activity j)) (before j i r);
         released = λ i h. (w.each i h).released;
         lined = λ j i h r. ((w.each i h).lined (activity j) (before j i r)).ended;
         stepped = λ j i l h e. ((w.each i h).stepped (activity j) e).ended;

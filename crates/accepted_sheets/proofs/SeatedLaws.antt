@@ -1,4 +1,5 @@
 -- Settling and placing keep a board orderly.
+use Rattle.std.specs.Prelude.{Option, Some, ℕ}
 use Prim.Native.Nat.{ℕ, zero, suc, ◌+◌, ◌-◌, ◌≤◌, ◌<◌}
 use mathlib.Core.Path.{◌≡◌, refl, sym, ap, ◌∙◌, subst}
 use mathlib.Core.Bool.{Bool, true, false}
@@ -11,8 +12,6 @@ use lib.Seq.{get_or-set_same, get_or-set_other, get_or-append_seam}
 use Rattle.graph.specs.Counting.{count_of, hit}
 use Rattle.graph.specs.Links.{linked, to_if}
 use Rattle.graph.specs.Shop.{greatest}
-use Rattle.graph.specs.declared.Link.{Link}
-use Rattle.graph.specs.declared.Link.TheVariants.{To}
 use Rattle.graph.proofs.CountingLaws.{hit-eq, hit-ne, either, count_of-append}
 use Rattle.graph.proofs.NamingLaws.{zeros_at}
 use Rattle.graph.proofs.ShopTheorem.{greatest-first, greatest-each}
@@ -31,11 +30,11 @@ use Rattle.accepted_sheets.specs.Orderly.{last_before, Settled, Awaited, Seated,
 use Rattle.accepted_sheets.proofs.LineLaws.{last_longer, last-listed, last-same, last_other}
 
 -- The step before is a lower number of the same task.
-pub step_before : (p : Problem) (a q : ℕ) → task_pred p a ≡ To q → (a ≡ suc q) × (p.task_of q ≡ p.task_of a)
+pub step_before : (p : Problem) (a q : ℕ) → task_pred p a ≡ Some q → (a ≡ suc q) × (p.task_of q ≡ p.task_of a)
 step_before p zero q e = let z : ◌≡◌ {A = ℕ} 0 1 = cc in absurd (omega arith)
 step_before p (suc a) q e = go (eqb (p.task_of a) (p.task_of (suc a))) refl e
   where
-    go : (t : Bool) → eqb (p.task_of a) (p.task_of (suc a)) ≡ t → to_if t a ≡ To q → (suc a ≡ suc q) × (p.task_of q ≡ p.task_of (suc a))
+    go : (t : Bool) → eqb (p.task_of a) (p.task_of (suc a)) ≡ t → to_if t a ≡ Some q → (suc a ≡ suc q) × (p.task_of q ≡ p.task_of (suc a))
     go true f e =
         let w : a ≡ q = cc in
         (ap suc w, ap p.task_of (sym w) ∙ eqb-true (p.task_of a) (p.task_of (suc a)) f)
@@ -92,14 +91,14 @@ module _ {p : Problem} {on : ℕ → ℕ} {b : Board} (w : Orderly p on b) where
 
 -- ---- cells
 
-link_listed : (line : Link) (q : ℕ) → line ≡ To q → 0 < count_of q (linked line)
+link_listed : (line : Option ℕ) (q : ℕ) → line ≡ Some q → 0 < count_of q (linked line)
 unfolding count_of
 link_listed line q e = rw e (omega (arith, hit-eq q q refl))
 
-last_put : (n : ℕ) (cells : List ℕ) (k a : ℕ) → k < length cells → a < n → last_placed n (set cells k a) k ≡ To a
+last_put : (n : ℕ) (cells : List ℕ) (k a : ℕ) → k < length cells → a < n → last_placed n (set cells k a) k ≡ Some a
 last_put n cells k a h l =
     let e = get_or-set_same cells k a 0 h in
-    sym (last_to n (set cells k a) k (omega (arith, e))) ∙ ap To e
+    sym (last_to n (set cells k a) k (omega (arith, e))) ∙ ap Some e
 
 last_kept : (n : ℕ) (cells : List ℕ) (k j a : ℕ) → (k ≡ j → ⊥) → last_placed n (set cells k a) j ≡ last_placed n cells j
 last_kept n cells k j a ne = ap (λ (x : ℕ). to_if (ltb x n) x) (get_or-set_other cells k j a 0 (λ e. ne (sym e)))
@@ -139,7 +138,7 @@ module _ {p : Problem} {g : Genes} (ok : Accepted p g) {on : ℕ → ℕ} (withi
         ended = omega (arith, o.ended, end_kept q (other q o.settled), start_kept a (other a h));
       }
 
-  seated_kept : (a : ℕ) (line : Link) → Settled b a → Seated p on b a line → Seated p on c a line
+  seated_kept : (a : ℕ) (line : Option ℕ) → Settled b a → Seated p on b a line → Seated p on c a line
   seated_kept a line h s =
       record {
         lasts = end_kept a (other a h) ∙ s.lasts ∙ ap (λ (y : ℕ). y + span_from p a (on a) line) (sym (start_kept a (other a h)));
@@ -150,10 +149,10 @@ module _ {p : Problem} {g : Genes} (ok : Accepted p g) {on : ℕ → ℕ} (withi
       }
 
   -- the one that is seated now
-  abbrev line : Link
+  abbrev line : Option ℕ
   line = last_on p b m
 
-  abbrev step : Link
+  abbrev step : Option ℕ
   step = last_of p b (p.task_of x)
 
   abbrev way : ℕ
@@ -178,12 +177,12 @@ module _ {p : Problem} {g : Genes} (ok : Accepted p g) {on : ℕ → ℕ} (withi
   awaited_now : (q : ℕ) → Settled b q → end_of b q ≤ start_of c x → Awaited c q x
   awaited_now q h l = record { settled = stays w x next.here q h; ended = omega (arith, l, end_kept q (other q h)) }
 
-  line_awaited : (q : ℕ) → line ≡ To q → Awaited c q x
+  line_awaited : (q : ℕ) → line ≡ Some q → Awaited c q x
   line_awaited q e =
       let listed = last-listed on b.order m (length b.order) q (omega arith) (sym (w.last_on m (omega (arith, within x, ok.machines.1))) ∙ e) in
       awaited_now q (placed_settled w q listed) (omega (arith, after_line, greatest-each (end_of b) (linked line) (p.release x) q (link_listed line q e)))
 
-  step_awaited : (q : ℕ) → task_pred p x ≡ To q → Awaited c q x
+  step_awaited : (q : ℕ) → task_pred p x ≡ Some q → Awaited c q x
   step_awaited q e =
       let s = step_before p x q e in
       awaited_now q (next.steps q (omega (arith, s.0)) s.1)
@@ -191,7 +190,7 @@ module _ {p : Problem} {g : Genes} (ok : Accepted p g) {on : ℕ → ℕ} (withi
       (λ ne.
       let same : p.task_of q ≡ p.task_of (suc q) = s.1 ∙ ap p.task_of s.0 in
       let last = w.last_of_lem q (omega (arith, ne)) same (subst (λ (y : ℕ). get_or b.settled y 0 ≡ 0) s.0 next.free) in
-      let here : step ≡ To q = ap (last_of p b) (sym s.1) ∙ last in
+      let here : step ≡ Some q = ap (last_of p b) (sym s.1) ∙ last in
       omega (arith, after_step', greatest-each (λ y. end_of b y + way) (linked step) from_line q (link_listed step q here))))
 
   named_awaited : (q : ℕ) → 0 < count_of q (p.predecessors x) → Awaited c q x
@@ -223,8 +222,8 @@ module _ {p : Problem} {g : Genes} (ok : Accepted p g) {on : ℕ → ℕ} (withi
   fits : m < 16
   fits = omega (arith, within x, ok.machines.1)
 
-  seated_at : {a a' : ℕ} {l l' : Link} → a ≡ a' → l ≡ l' → Seated p on c a l → Seated p on c a' l'
-  seated_at {a} {a'} {l} {l'} e f s = subst (λ (y : Link). Seated p on c a' y) f (subst (λ (y : ℕ). Seated p on c y l) e s)
+  seated_at : {a a' : ℕ} {l l' : Option ℕ} → a ≡ a' → l ≡ l' → Seated p on c a l → Seated p on c a' l'
+  seated_at {a} {a'} {l} {l'} e f s = subst (λ (y : Option ℕ). Seated p on c a' y) f (subst (λ (y : ℕ). Seated p on c y l) e s)
 
   each_seated : (i : ℕ) → i < length c.order → Seated p on c (get_or c.order i 0) (last_before on c.order (on (get_or c.order i 0)) i)
   each_seated i h =
@@ -244,7 +243,7 @@ module _ {p : Problem} {g : Genes} (ok : Accepted p g) {on : ℕ → ℕ} (withi
       either m k
       (λ e.
       subst (λ (y : ℕ). last_on p c y ≡ last_before on c.order y (length c.order)) e
-      (last_put p.n b.lines m x (omega (arith, w.sound.sized.lines, fits)) next.here ∙ ap To (sym at_end_lem)
+      (last_put p.n b.lines m x (omega (arith, w.sound.sized.lines, fits)) next.here ∙ ap Some (sym at_end_lem)
       ∙ sym (last-same on c.order m count (ap on at_end_lem)) ∙ ap (last_before on c.order m) (sym longer)))
       (λ ne.
       last_kept p.n b.lines m k x ne ∙ w.last_on k h ∙ sym (last_longer on b.order (x ∷ []) k count (omega arith))
@@ -261,12 +260,12 @@ module _ {p : Problem} {g : Genes} (ok : Accepted p g) {on : ℕ → ℕ} (withi
       (λ z. other x (w.stepwise q x (placed_settled w q h) (omega (arith, z, ne)) e) refl)
       (λ z. absurd (omega (arith, f, next.steps (suc q) (omega (arith, z, ns)) (sym (e ∙ s)))))
 
-  step_told : (q : ℕ) → 0 < count_of q c.order → p.task_of q ≡ p.task_of (suc q) → get_or c.settled (suc q) 0 ≡ 0 → last_of p c (p.task_of q) ≡ To q
+  step_told : (q : ℕ) → 0 < count_of q c.order → p.task_of q ≡ p.task_of (suc q) → get_or c.settled (suc q) 0 ≡ 0 → last_of p c (p.task_of q) ≡ Some q
   step_told q h s f =
       let u = was_free w x next.here (suc q) f in
       either x q
       (λ e.
-      subst (λ (y : ℕ). last_of p c (p.task_of y) ≡ To y) e
+      subst (λ (y : ℕ). last_of p c (p.task_of y) ≡ Some y) e
       (last_put p.n b.steps (p.task_of x) x (omega (arith, w.sound.sized.steps, ok.owner x next.here, ok.tasks.1)) next.here))
       (λ ne.
       let l : 0 < count_of q b.order = omega (arith, h, counts q, hit-ne x q ne) in

@@ -1,5 +1,6 @@
 -- Where each activity has a machine and the order gives them all, and task order and predecessors close no circle, neither decoder leaves
 -- anybody out: in order since all of the order are taken, actively since a scan that finds nobody has nobody left to find.
+use Rattle.std.specs.Prelude.{None, Option, Some, ℕ}
 use Prim.Native.Nat.{ℕ, zero, suc, ◌+◌, ◌≤◌, ◌<◌}
 use mathlib.Core.Path.{◌≡◌, refl, sym, ap, ◌∙◌, subst}
 use mathlib.Core.Bool.{Bool, true, false, not, ◌&&◌}
@@ -12,8 +13,6 @@ use lib.Seq.{get_or-set_other, set-get_or}
 use Rattle.graph.specs.Counting.{count_of, hit, sum_to}
 use Rattle.graph.specs.Filing.{cons_if}
 use Rattle.graph.specs.Arcs.{Circle}
-use Rattle.graph.specs.declared.Link.{Link}
-use Rattle.graph.specs.declared.Link.TheVariants.{To, Nothing as Nobody}
 use Rattle.graph.proofs.CountingLaws.{hit-eq, hit-ne, either, count_of-append, count_all, below_of}
 use Rattle.graph.proofs.NamingLaws.{zeros_at}
 use Rattle.graph.proofs.CircleLaws.{circle}
@@ -33,8 +32,6 @@ use Rattle.in_order.specs.InOrder.{ready_order, place_in_order}
 use Rattle.in_order.proofs.PendingLaws.{or_true, and_true}
 use Rattle.in_order.proofs.Theorem.{well_placed}
 use Rattle.active.specs.Active.{ranks_of, Scan, settled_in, any_unsettled, stops_at, candidate_unless, stop_at, pass_over, scan_steps, scan_from, scan_tasks, scan_of, seat_now, chosen_of, scanned, choice_on, place_from, place_active}
-use Rattle.active.specs.declared.Choice.{Choice}
-use Rattle.active.specs.declared.Choice.TheVariants.{Nothing, Sits}
 use Rattle.accepted_sheets.specs.Orderly.{Settled, Orderly}
 use Rattle.accepted_sheets.specs.Complete.{Complete}
 use Rattle.accepted_sheets.proofs.SeatedLaws.{step_before, empty_orderly}
@@ -190,10 +187,10 @@ module _ {p : Problem} {g : Genes} (ok : Accepted p g) (manned : (a : ℕ) → a
 
   -- ---- where a scan finds nobody, nobody is left
 
-  first_step : (c q : ℕ) → c < p.n → task_pred p c ≡ Nobody → q < c → p.task_of q ≡ p.task_of c → ⊥
+  first_step : (c q : ℕ) → c < p.n → task_pred p c ≡ None → q < c → p.task_of q ≡ p.task_of c → ⊥
   first_step zero q h e l s = omega arith
   first_step (suc a) q h e l s =
-      let no : To a ≡ Nobody = rw (eq-eqb (p.task_of a) (p.task_of (suc a)) (between ok q a (suc a) (omega arith) (omega arith) h s)) at e in
+      let no : Some a ≡ None = rw (eq-eqb (p.task_of a) (p.task_of (suc a)) (between ok q a (suc a) (omega arith) (omega arith) h s)) at e in
       let z : ◌≡◌ {A = ℕ} 0 1 = cc in
       omega arith
 
@@ -207,9 +204,9 @@ module _ {p : Problem} {g : Genes} (ok : Accepted p g) (manned : (a : ℕ) → a
     left : (q : ℕ) → (Settled b q → ⊥) → get_or b.settled q 0 ≡ 0
     left q ne = omega (arith, ne, w.sound.flags q)
 
-    by_step : (c : ℕ) → c < p.n → get_or b.settled c 0 ≡ 0 → any_unsettled b.settled (p.predecessors c) ≡ false → (link : Link) → task_pred p c ≡ link → Waits c
-    by_step c h f n Nobody e = not_due c (record { here = h; free = f; steps = λ x l t. absurd (first_step c x h e l t); named = n })
-    by_step c h f n (To q) e =
+    by_step : (c : ℕ) → c < p.n → get_or b.settled c 0 ≡ 0 → any_unsettled b.settled (p.predecessors c) ≡ false → (link : Option ℕ) → task_pred p c ≡ link → Waits c
+    by_step c h f n None e = not_due c (record { here = h; free = f; steps = λ x l t. absurd (first_step c x h e l t); named = n })
+    by_step c h f n (Some q) e =
         let s = step_before p c q e in
         either (get_or b.settled q 0) 1
         (λ o.
@@ -239,21 +236,21 @@ module _ {p : Problem} {g : Genes} (ok : Accepted p g) (manned : (a : ℕ) → a
 
   -- ---- the work ends when everybody is placed
 
-  none_found : (ranks : List ℕ) (seat : ℕ → Seat) (l : List ℕ) → chosen_of ranks seat l ≡ Nothing → (c : ℕ) → count_of c l ≡ 0
+  none_found : (ranks : List ℕ) (seat : ℕ → Seat) (l : List ℕ) → chosen_of ranks seat l ≡ None → (c : ℕ) → count_of c l ≡ 0
   unfolding count_of
   none_found ranks seat [] e c = refl
   none_found ranks seat (a ∷ l) e c = let z : ◌≡◌ {A = ℕ} 0 1 = cc in absurd (omega arith)
 
-  from_whole : (Circle p.n (Before p) → ⊥) → (ranks : List ℕ) (fuel : ℕ) (c : Choice) (b : Board) → Orderly p (assigned_to g) b → ((q : ℕ) → Settled b q → 0 < count_of q b.order)
+  from_whole : (Circle p.n (Before p) → ⊥) → (ranks : List ℕ) (fuel : ℕ) (c : Option Seat) (b : Board) → Orderly p (assigned_to g) b → ((q : ℕ) → Settled b q → 0 < count_of q b.order)
       → choice_on p g ranks b ≡ c → fuel + length b.order ≡ p.n → Complete p (place_from p g ranks fuel c (scanned p g b))
   unfolding place_from count_of
   from_whole acyclic ranks zero c b w placed e f = omega (arith, f)
-  from_whole acyclic ranks (suc fuel) Nothing b w placed e f =
+  from_whole acyclic ranks (suc fuel) None b w placed e f =
       all_placed_lem p w.sound
       (λ a h.
       omega
       (arith, w.sound.once a, w.sound.flags a, placed a (everyone_settled w (none_found ranks (seat_now p g b.ends b.lines b.steps) (scan_of p g b.settled).candidates e) acyclic a h)))
-  from_whole acyclic ranks (suc fuel) (Sits x) b w placed e f =
+  from_whole acyclic ranks (suc fuel) (Some x) b w placed e f =
       from_whole acyclic ranks fuel (choice_on p g ranks (sit p x (scanned p g b))) (sit p x (scanned p g b)) (chosen_orderly ok ranks w x e)
       (λ q h.
       let a = x.activity in

@@ -1,8 +1,8 @@
 -- Plan S with the genes that document 01's search ends with: the rows of the sheet that is shown, without their setups, are those that document 01
 -- prints, and the check accepts them.
+use Rattle.std.specs.Prelude.{None, Some}
 use mathlib.Core.Path.{◌≡◌, refl}
 use mathlib.Core.List.{List, [], ◌∷◌}
-use mathlib.Core.Option.{none, some}
 use lib.Ieee.{add, sub, mul, of_int, lt, of_bits}
 use lib.IntN.{ℤ, pos}
 use lib.ListN.{get_or}
@@ -31,7 +31,7 @@ abbrev plan_s : Problem
 plan_s = problem_of words_of_s (layout_of reading_of_s)
 
 abbrev improved : Genes
-improved = record { order = 1 ∷ 1 ∷ 0 ∷ 0 ∷ []; assigned = λ a. get_or (some 0 ∷ some 1 ∷ some 0 ∷ some 1 ∷ []) a none }
+improved = record { order = 1 ∷ 1 ∷ 0 ∷ 0 ∷ []; assigned = λ a. get_or (Some 0 ∷ Some 1 ∷ Some 0 ∷ Some 1 ∷ []) a None }
 
 abbrev printed : List ℤ
 printed =

@@ -1,4 +1,5 @@
 -- The loops that look for the lead and for the least rank, and what holds of the one that is chosen.
+use Rattle.std.specs.Prelude.{None, Some}
 use Prim.Native.Nat.{ℕ, suc, ◌+◌, ◌-◌, ◌≤◌, ◌<◌}
 use mathlib.Core.Path.{◌≡◌, refl, sym, ap, ap₂, ◌∙◌, subst}
 use mathlib.Core.Bool.{Bool, true, false, ◌&&◌, ◌||◌}
@@ -14,7 +15,6 @@ use Rattle.board.specs.declared.Seat.{Seat}
 use Rattle.in_order.proofs.ReadyLaws.{next_of, none_left}
 use Rattle.active.specs.Active.{Scan, scan_of, rank, seat_now, pick_seat, sooner, lead_from, lead_of, contends, preferred, least_rank, chosen_of}
 use Rattle.active.specs.Kept.{held_in, seat_in, held_by, ScannedAll, Offered}
-use Rattle.active.specs.declared.Choice.TheVariants.{Nothing, Sits}
 
 -- ---- what holds of all of a list
 
@@ -58,19 +58,19 @@ lead_of-has P ranks seat [] h k = absurd (omega arith)
 lead_of-has P ranks seat (a ∷ l) h k = lead_has P ranks seat (seat a) (a ∷ l) k.0 k
 
 -- The one that is chosen is a candidate's seat.
-pub chosen_has : (P : Seat → Type 0) (ranks : List ℕ) (seat : ℕ → Seat) (l : List ℕ) (x : Seat) → chosen_of ranks seat l ≡ Sits x → All (λ a. P (seat a)) l → P x
+pub chosen_has : (P : Seat → Type 0) (ranks : List ℕ) (seat : ℕ → Seat) (l : List ℕ) (x : Seat) → chosen_of ranks seat l ≡ Some x → All (λ a. P (seat a)) l → P x
 chosen_has P ranks seat [] x e k = let z : ◌≡◌ {A = ℕ} 0 1 = cc in absurd (omega arith)
 chosen_has P ranks seat (a ∷ l) x e k =
     let q : least_rank ranks seat (lead_of ranks seat (a ∷ l)) (a ∷ l) ≡ x = cc in
     subst P q (least-has P ranks seat (lead_of ranks seat (a ∷ l)) (a ∷ l) (lead_of-has P ranks seat (a ∷ l) (omega arith) k) k)
 
-pub none_chosen : (ranks : List ℕ) (seat : ℕ → Seat) (l : List ℕ) → length l ≡ 0 → Nothing ≡ chosen_of ranks seat l
+pub none_chosen : (ranks : List ℕ) (seat : ℕ → Seat) (l : List ℕ) → length l ≡ 0 → None ≡ chosen_of ranks seat l
 none_chosen ranks seat [] e = refl
 none_chosen ranks seat (a ∷ l) e = absurd (omega arith)
 
-pub one_chosen : (ranks : List ℕ) (seat : ℕ → Seat) (l : List ℕ) → 0 < length l → {lead x : Seat} → lead ≡ lead_of ranks seat l → x ≡ least_rank ranks seat lead l → Sits x ≡ chosen_of ranks seat l
+pub one_chosen : (ranks : List ℕ) (seat : ℕ → Seat) (l : List ℕ) → 0 < length l → {lead x : Seat} → lead ≡ lead_of ranks seat l → x ≡ least_rank ranks seat lead l → Some x ≡ chosen_of ranks seat l
 one_chosen ranks seat [] h e f = absurd (omega arith)
-one_chosen ranks seat (a ∷ l) h e f = ap Sits (f ∙ ap (λ (y : Seat). least_rank ranks seat y (a ∷ l)) e)
+one_chosen ranks seat (a ∷ l) h e f = ap Some (f ∙ ap (λ (y : Seat). least_rank ranks seat y (a ∷ l)) e)
 
 -- ---- `lead_of`
 
@@ -159,7 +159,7 @@ module _ (ranks kept : List ℕ) (seat : ℕ → Seat) where
   least_by lead (t ∷ l) h = ap₂ (λ (x y : Seat). preferred ranks lead x y) h.0 (least_by lead l h.1)
 
   pub chosen_by : (l : List ℕ) → 0 < length l → All Agree l → {lead x : Seat} → lead ≡ lead_of ranks (seat_in kept) l → x ≡ least_rank ranks (seat_in kept) lead l
-      → Sits x ≡ chosen_of ranks seat (held_by kept l)
+      → Some x ≡ chosen_of ranks seat (held_by kept l)
   unfolding held_by All
   chosen_by [] h k e f = absurd (omega arith)
   chosen_by (t ∷ l) h k {lead} e f =
@@ -200,12 +200,12 @@ module _ {p : Problem} {g : Genes} {settled₀ settled kept ends lines steps off
       }
 
   pub chosen_of' : (ranks : List ℕ) → 0 < length offered → {lead x : Seat} → lead ≡ lead_of ranks (seat_in kept) offered → x ≡ least_rank ranks (seat_in kept) lead offered
-      → Sits x ≡ chosen_of ranks (seat_now p g ends lines steps) (scan_of p g settled₀).candidates
+      → Some x ≡ chosen_of ranks (seat_now p g ends lines steps) (scan_of p g settled₀).candidates
   chosen_of' ranks h e f =
       chosen_by ranks kept (seat_now p g ends lines steps) offered h (agreed ranks) e f
       ∙ ap (λ (x : Scan). chosen_of ranks (seat_now p g ends lines steps) x.candidates) s.scanned
 
-  pub none_of : (ranks : List ℕ) → length offered ≡ 0 → Nothing ≡ chosen_of ranks (seat_now p g ends lines steps) (scan_of p g settled₀).candidates
+  pub none_of : (ranks : List ℕ) → length offered ≡ 0 → None ≡ chosen_of ranks (seat_now p g ends lines steps) (scan_of p g settled₀).candidates
   none_of ranks h =
       none_chosen ranks (seat_now p g ends lines steps) (held_by kept offered) (none_held kept offered h)
       ∙ ap (λ (x : Scan). chosen_of ranks (seat_now p g ends lines steps) x.candidates) s.scanned

@@ -1,10 +1,10 @@
 -- What is kept: cells that are written leave the others as they are, and a seat that is kept is still the activity's seat after another was
 -- placed, on another machine and of another task.
+use Rattle.std.specs.Prelude.{None, Option, Some}
 use Prim.Native.Nat.{ℕ, zero, suc, ◌+◌, ◌-◌, ◌≤◌, ◌<◌}
 use mathlib.Core.Path.{◌≡◌, refl, sym, ap, ◌∙◌, subst}
 use mathlib.Core.Bool.{Bool, true, false, cond, not, ◌||◌}
 use mathlib.Core.List.{List, [], ◌∷◌}
-use mathlib.Core.Option.{Option, none, some}
 use native.Mathlib.Omega.{arith}
 use native.Mathlib.Numerals.{add-one}
 use borrow.Author.Tests.{eqb-true, eqb-false, ltb-true, lt-ltb, eq-eqb, ne_eqb}
@@ -28,9 +28,9 @@ use Rattle.active.specs.Kept.{machine_code, stops_here, Manned, next_in, last_in
 
 -- ---- machines by activity
 
-assigned_is : (o : Option ℕ) (x : ℕ) → x ≡ machine_code o → ((m : ℕ) → o ≡ some m → m < 16) → ltb x 16 ≡ is_assigned o
-assigned_is none x e h = rw e
-assigned_is (some m) x e h = rw (e, lt-ltb m 16 (h m refl))
+assigned_is : (o : Option ℕ) (x : ℕ) → x ≡ machine_code o → ((m : ℕ) → o ≡ Some m → m < 16) → ltb x 16 ≡ is_assigned o
+assigned_is None x e h = rw e
+assigned_is (Some m) x e h = rw (e, lt-ltb m 16 (h m refl))
 
 pub stops_is : {g : Genes} {n : ℕ} {on : List ℕ} → Manned g n on → (settled : List ℕ) (a : ℕ) → a < n → stops_here on settled a ≡ stops_at g settled a
 stops_is {g} {n} {on} w settled a h = rw (assigned_is (g.assigned a) (get_or on a 0) (w.coded a h) (w.known a))
@@ -366,7 +366,7 @@ pub record Beginning (p : Problem) (kept : List ℕ) (first t : ℕ) : Type 0 wh
   pub here : first ≡ p.first t
   pub next : (u : ℕ) → u < t → next_in kept u ≡ p.first u
   pub last : (u : ℕ) → u < t → last_in kept u ≡ p.first u + p.steps u
-  pub none : (u : ℕ) → u < t → held_in kept u ≡ p.n
+  pub None : (u : ℕ) → u < t → held_in kept u ≡ p.n
 
 pub begin_none : {p : Problem} {g : Genes} → Accepted p g → {kept : List ℕ} → length kept ≡ 224 → Beginning p kept 0 0
 begin_none {p} ok e =
@@ -376,7 +376,7 @@ begin_none {p} ok e =
       here = sym ok.starting;
       next = λ u h. absurd (omega arith);
       last = λ u h. absurd (omega arith);
-      none = λ u h. absurd (omega arith);
+      None = λ u h. absurd (omega arith);
     }
 
 module _ {p : Problem} {g : Genes} (ok : Accepted p g) {kept : List ℕ} {first t : ℕ} (w : Beginning p kept first t) where
@@ -400,7 +400,7 @@ module _ {p : Problem} {g : Genes} (ok : Accepted p g) {kept : List ℕ} {first 
         last = λ u l.
             either u t (λ q. rw q (omega (arith, b, e, w.here)))
             (λ ne. other (32 + u) (λ q. omega (arith, q, l, low)) (λ q. ne (omega arith)) (λ q. omega (arith, q, l, low)) ∙ w.last u (omega arith));
-        none = λ u l.
+        None = λ u l.
             either u t (λ q. rw q c)
             (λ ne. other (64 + u) (λ q. ne (omega arith)) (λ q. omega (arith, q, l, low)) (λ q. omega (arith, q, l, low)) ∙ w.none u (omega arith));
       }
@@ -415,5 +415,5 @@ module _ {p : Problem} {g : Genes} (ok : Accepted p g) {kept : List ℕ} {first 
         sized = w.sized;
         next = λ u l. w.next u (omega arith);
         last = λ u l. w.last u (omega arith);
-        none = λ u l. w.none u (omega arith);
+        None = λ u l. w.none u (omega arith);
       }

@@ -1,4 +1,5 @@
 -- The loop that places: the board so far, with the rest placed upon it, is the whole.
+use Rattle.std.specs.Prelude.{None, Option, Some}
 use Prim.Native.Nat.{ℕ, zero, suc, ◌+◌, ◌-◌, ◌≤◌, ◌<◌}
 use mathlib.Core.Path.{◌≡◌, refl, sym, ap, ap₂, ◌∙◌, subst}
 use mathlib.Core.List.{List, [], ◌∷◌}
@@ -17,8 +18,6 @@ use Rattle.board.proofs.BoardLaws.{empty_sound, room_left, seat_sound, ends_with
 use Rattle.active.specs.Active.{scan_of, seat_now, with_settled, scanned, choice_on, place_from, place_all}
 use Rattle.active.specs.Kept.{forgotten, Manned, Kept}
 use Rattle.active.specs.Asked.{Chosen, Begun}
-use Rattle.active.specs.declared.Choice.{Choice}
-use Rattle.active.specs.declared.Choice.TheVariants.{Nothing, Sits}
 use Rattle.active.proofs.SeatNowLaws.{seat_by_rule}
 use Rattle.active.proofs.KeptLaws.{fresh_kept, sit_kept}
 use Rattle.active.proofs.ChoiceLaws.{all_map, chosen_has}
@@ -44,18 +43,18 @@ module _ {p : Problem} {g : Genes} (ok : Accepted p g) where
       }
 
   -- Whoever is chosen can be placed.
-  pub choice_fine : (ranks : List ℕ) {b : Board} → Sound p.n b → (x : Seat) → choice_on p g ranks b ≡ Sits x → Fine p (scanned p g b) x
+  pub choice_fine : (ranks : List ℕ) {b : Board} → Sound p.n b → (x : Seat) → choice_on p g ranks b ≡ Some x → Fine p (scanned p g b) x
   choice_fine ranks {b} w x e =
       let seen = scan_seen ok b w in
       chosen_has (Fine p (scanned p g b)) ranks (seat_now p g b.ends b.lines b.steps) (scan_of p g b.settled).candidates x e
       (all_map (λ a f. seat_fine seen.sound a f.0 f.1) (scan_of p g b.settled).candidates seen.free)
 
-over : (p : Problem) (g : Genes) (ranks : List ℕ) (fuel : ℕ) (c : Choice) (b : Board) → c ≡ Nothing → place_from p g ranks fuel c b ≡ b
+over : (p : Problem) (g : Genes) (ranks : List ℕ) (fuel : ℕ) (c : Option Seat) (b : Board) → c ≡ None → place_from p g ranks fuel c b ≡ b
 unfolding place_from
 over p g ranks zero c b e = refl
 over p g ranks (suc fuel) c b e = rw e
 
-turn : (p : Problem) (g : Genes) (ranks : List ℕ) (fuel : ℕ) (c : Choice) (b : Board) (x : Seat) → c ≡ Sits x → place_from p g ranks (suc fuel) c b ≡ place_all p g ranks fuel (sit p x b)
+turn : (p : Problem) (g : Genes) (ranks : List ℕ) (fuel : ℕ) (c : Option Seat) (b : Board) (x : Seat) → c ≡ Some x → place_from p g ranks (suc fuel) c b ≡ place_all p g ranks fuel (sit p x b)
 unfolding place_from
 turn p g ranks fuel c b x e = rw e
 
@@ -101,14 +100,14 @@ module _ {p : Problem} {g : Genes} (ok : Accepted p g) {ranks order₀ order kep
         keeping = w.keeping;
       }
 
-  module _ {r : Choice} (er : r ≡ choice_on p g ranks b) {settled' : List ℕ} (es : settled' ≡ (scan_of p g b.settled).settled) where
+  module _ {r : Option Seat} (er : r ≡ choice_on p g ranks b) {settled' : List ℕ} (es : settled' ≡ (scan_of p g b.settled).settled) where
     scanned_is : with_settled b settled' ≡ scanned p g b
     scanned_is = ap (with_settled b) es
 
     pub scan_sound : Sound p.n (with_settled b settled')
     scan_sound = rw es (scan_seen ok b w.sound).sound
 
-    pub place_end : r ≡ Nothing → with_settled b settled' ≡ place_all p g ranks p.n (empty_board p.n)
+    pub place_end : r ≡ None → with_settled b settled' ≡ place_all p g ranks p.n (empty_board p.n)
     place_end e = scanned_is ∙ sym (over p g ranks (p.n - count) (choice_on p g ranks b) (scanned p g b) (sym er ∙ e)) ∙ w.rest
 
     pub place-listed : {all : Board} → with_settled b settled' ≡ all → take count order ≡ b.order → Listed all.order order₀ order count
@@ -120,7 +119,7 @@ module _ {p : Problem} {g : Genes} (ok : Accepted p g) {ranks order₀ order kep
           kept = w.kept;
         }
 
-    module _ (x : Seat) (ex : r ≡ Sits x) where
+    module _ (x : Seat) (ex : r ≡ Some x) where
       pub fine : Fine p (with_settled b settled') x
       fine = rw es (choice_fine ok ranks w.sound x (sym er ∙ ex))
 

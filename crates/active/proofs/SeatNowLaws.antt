@@ -1,4 +1,5 @@
 -- What a candidate's seat asks is there, and what is worked out is its seat.
+use Rattle.std.specs.Prelude.{None, Option, Some, ℕ}
 use Prim.Native.Nat.{ℕ, ◌<◌, ◌^◌}
 use mathlib.Core.Path.{◌≡◌, refl}
 use mathlib.Core.List.{List}
@@ -6,8 +7,6 @@ use native.Mathlib.Omega.{arith}
 use lib.ListN.{get_or}
 use Rattle.graph.specs.Counting.{Below}
 use Rattle.graph.specs.Links.{linked}
-use Rattle.graph.specs.declared.Link.{Link}
-use Rattle.graph.specs.declared.Link.TheVariants.{To, Nothing}
 use Rattle.plan.specs.Problem.{Problem, Genes}
 use Rattle.plan.specs.Accepted.{Accepted}
 use Rattle.timing.specs.Placing.{machine_before}
@@ -19,23 +18,23 @@ use Rattle.board.specs.declared.Seat.{Seat}
 use Rattle.board.proofs.BoardLaws.{seat_is}
 use Rattle.active.specs.Active.{seat_now}
 
-pub one_below : (n a : ℕ) → a < n → Below n (linked (To a))
+pub one_below : (n a : ℕ) → a < n → Below n (linked (Some a))
 unfolding Below
 one_below n a h = (h, tt)
 
 module _ {p : Problem} {g : Genes} (ok : Accepted p g) where
-  before_known : (step : Link) → machine_before step (assigned_to g) < p.machines
-  before_known Nothing = omega (arith, ok.machines.0)
-  before_known (To q) = assigned_known ok q
+  before_known : (step : Option ℕ) → machine_before step (assigned_to g) < p.machines
+  before_known None = omega (arith, ok.machines.0)
+  before_known (Some q) = assigned_known ok q
 
-  pub from_known : (step : Link) {from : ℕ} → from ≡ machine_before step (assigned_to g) → from < p.machines
+  pub from_known : (step : Option ℕ) {from : ℕ} → from ≡ machine_before step (assigned_to g) → from < p.machines
   from_known step {from} e = rw e (before_known step)
 
-  module _ (a : ℕ) (step : Link) {m from way : ℕ} (em : m ≡ assigned_to g a) (ef : from ≡ machine_before step (assigned_to g)) (ew : way ≡ p.transport from m) where
+  module _ (a : ℕ) (step : Option ℕ) {m from way : ℕ} (em : m ≡ assigned_to g a) (ef : from ≡ machine_before step (assigned_to g)) (ew : way ≡ p.transport from m) where
     pub way_small : way < 2 ^ 32
     way_small = omega (arith, ew, ok.transport from m (from_known step ef) (rw em (assigned_known ok a)))
 
-    module _ (ends lines steps : List ℕ) {task : ℕ} {line : Link} {r : Seat} (el : line ≡ last_placed p.n lines m) (et : task ≡ p.task_of a) (es : step ≡ last_placed p.n steps task)
+    module _ (ends lines steps : List ℕ) {task : ℕ} {line : Option ℕ} {r : Seat} (el : line ≡ last_placed p.n lines m) (et : task ≡ p.task_of a) (es : step ≡ last_placed p.n steps task)
         (er : r ≡ seat_after p a m line step way (λ q. get_or ends q 0)) where
       pub seat_now_is : r ≡ seat_now p g ends lines steps a
       seat_now_is = rw (er, ew, ef, es, el, et, em)

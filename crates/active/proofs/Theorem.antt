@@ -1,4 +1,5 @@
 -- What is true of the sheet that is placed actively.
+use Rattle.std.specs.Prelude.{None, Option, Some}
 use Prim.Native.Nat.{ℕ, zero, suc}
 use mathlib.Core.Path.{◌≡◌, refl}
 use mathlib.Core.List.{List}
@@ -11,17 +12,15 @@ use Rattle.board.specs.Sound.{Sound}
 use Rattle.board.proofs.BoardLaws.{empty_sound, ends_within}
 use Rattle.active.specs.Active.{ranks_of, scanned, choice_on, place_from, place_active}
 use Rattle.active.specs.ActivePlaced.{ActivePlaced}
-use Rattle.active.specs.declared.Choice.{Choice}
-use Rattle.active.specs.declared.Choice.TheVariants.{Nothing, Sits}
 use Rattle.active.proofs.SeenLaws.{scan_seen}
 use Rattle.active.proofs.PlacingLaws.{choice_fine}
 
 module _ (p : Problem) (g : Genes) (ok : Accepted p g) where
-  from_sound : (ranks : List ℕ) (fuel : ℕ) (c : Choice) (b : Board) → Sound p.n b → choice_on p g ranks b ≡ c → Sound p.n (place_from p g ranks fuel c (scanned p g b))
+  from_sound : (ranks : List ℕ) (fuel : ℕ) (c : Option Seat) (b : Board) → Sound p.n b → choice_on p g ranks b ≡ c → Sound p.n (place_from p g ranks fuel c (scanned p g b))
   unfolding place_from
   from_sound ranks zero c b w e = (scan_seen ok b w).sound
-  from_sound ranks (suc fuel) Nothing b w e = (scan_seen ok b w).sound
-  from_sound ranks (suc fuel) (Sits x) b w e =
+  from_sound ranks (suc fuel) None b w e = (scan_seen ok b w).sound
+  from_sound ranks (suc fuel) (Some x) b w e =
       from_sound ranks fuel (choice_on p g ranks (sit p x (scanned p g b))) (sit p x (scanned p g b)) (choice_fine ok ranks w x e).sound refl
 
   sound : Sound p.n (place_active p g)

@@ -1,10 +1,10 @@
 -- Plan S placed actively by the rules themselves, with the genes that document 01 gives and those that its search ends with; and a small plan
 -- whose first scan only settles, and so ends the work though it freed a step.
+use Rattle.std.specs.Prelude.{None, Option, Some}
 use Prim.Native.Nat.{ℕ, ◌*◌}
 use mathlib.Core.Path.{◌≡◌, refl}
 use mathlib.Core.Bool.{false, cond}
 use mathlib.Core.List.{List, [], ◌∷◌}
-use mathlib.Core.Option.{Option, none, some}
 use lib.Dec.{eqb, ltb}
 use lib.Ieee.{fin}
 use lib.IntN.{negsuc}
@@ -26,10 +26,10 @@ abbrev plan_s : Problem
 plan_s = problem_of words_of_s (layout_of reading_of_s)
 
 abbrev with_genes : (order : List ℕ) → (machines : List (Option ℕ)) → Genes
-with_genes order machines = record { order = order; assigned = λ a. get_or machines a none }
+with_genes order machines = record { order = order; assigned = λ a. get_or machines a None }
 
 abbrev on_both : List (Option ℕ)
-on_both = some 0 ∷ some 1 ∷ some 0 ∷ some 1 ∷ []
+on_both = Some 0 ∷ Some 1 ∷ Some 0 ∷ Some 1 ∷ []
 
 -- 2 would finish first, at 1, but 0 ranks before it there; 1 then would finish at 7, and ranks before 3
 abbrev given : Board
@@ -63,7 +63,7 @@ waiting_plan =
       n = 4;
       machines = 2;
       category = λ t. t;
-      deadline = λ t. none;
+      deadline = λ t. None;
       first = λ t. 2 * t;
       steps = λ t. 2;
       task_of = λ a. cond (ltb a 2) 0 1;
@@ -75,14 +75,14 @@ waiting_plan =
       process = λ a m. 2;
       teardown = λ a m. 0;
       transport = λ l m. 0;
-      change = λ m b c. none;
+      change = λ m b c. None;
       weight = fin false 1 (negsuc 0);
       limit = 60;
     }
 
 -- The second task has no machines: the scan settles both its steps after it left 0 waiting, finds no candidate, and nothing is placed.
 abbrev only_settled : Board
-only_settled = place_active waiting_plan (with_genes (0 ∷ 0 ∷ 1 ∷ 1 ∷ []) (some 0 ∷ some 1 ∷ none ∷ none ∷ []))
+only_settled = place_active waiting_plan (with_genes (0 ∷ 0 ∷ 1 ∷ 1 ∷ []) (Some 0 ∷ Some 1 ∷ None ∷ None ∷ []))
 
 pub settling_ends_the_work : (only_settled.order ≡ []) × (only_settled.settled ≡ 0 ∷ 0 ∷ 1 ∷ 1 ∷ [])
 unfolding counting.count_of counting.hit shop.greatest genes.indexed_from rule.ranked_from rule.any_unsettled rule.scan_steps rule.scan_tasks rule.lead_from rule.least_rank rule.place_from
@@ -90,7 +90,7 @@ settling_ends_the_work = (refl, refl)
 
 -- With machines for both, 0 waits until 3 is placed.
 abbrev all_placed : Board
-all_placed = place_active waiting_plan (with_genes (0 ∷ 0 ∷ 1 ∷ 1 ∷ []) (some 0 ∷ some 1 ∷ some 1 ∷ some 0 ∷ []))
+all_placed = place_active waiting_plan (with_genes (0 ∷ 0 ∷ 1 ∷ 1 ∷ []) (Some 0 ∷ Some 1 ∷ Some 1 ∷ Some 0 ∷ []))
 
 pub waits_for-the-last : (all_placed.order ≡ 2 ∷ 3 ∷ 0 ∷ 1 ∷ []) × (all_placed.ends ≡ 6 ∷ 8 ∷ 2 ∷ 4 ∷ [])
 unfolding counting.count_of counting.hit shop.greatest genes.indexed_from rule.ranked_from rule.any_unsettled rule.scan_steps rule.scan_tasks rule.lead_from rule.least_rank rule.place_from

@@ -1,14 +1,12 @@
 -- Document 01, "Two decoders", active: scan tasks; skip and settle steps without a machine; stop a task at one whose predecessors aren't
 -- settled; a scan with no candidate ends the work. Least (finish, rank) fixes the machine and moment; among candidates on it that start
 -- before that finish, or that are it, the least rank is placed; ties by task. Rank is the place in the order, greatest if absent.
-use Rattle.std.specs.Prelude.{ℕ, zero, suc, ◌+◌, Bool, true, false, not, ◌&&◌, ◌||◌, List, [], ◌∷◌, ◌++◌, eqb, ltb, leb, length, get_or, set, replicate}
+use Rattle.std.specs.Prelude.{ℕ, zero, suc, ◌+◌, Bool, true, false, not, ◌&&◌, ◌||◌, List, [], ◌∷◌, ◌++◌, eqb, ltb, leb, length, get_or, set, replicate, Some, None, Option}
 use Rattle.plan.specs.Problem.{Problem, Genes}
 use Rattle.timing.specs.Placing.{machine_before}
 use Rattle.genes.specs.Indexed.{indexed, assigned_to, is_assigned}
 use Rattle.board.specs.Board.{Board, empty_board, last_placed, seat_after, sit}
 use Rattle.board.specs.declared.Seat.{Seat}
-use Rattle.active.specs.declared.Choice.{Choice}
-use Rattle.active.specs.declared.Choice.TheVariants.{Nothing, Sits}
 
 -- ---- ranks
 
@@ -111,9 +109,9 @@ least_rank ranks seat lead (a ∷ l) = preferred ranks lead (seat a) (least_rank
 abbrev pub lead_of : (ranks : List ℕ) → (ℕ → Seat) → List ℕ → Seat
 lead_of ranks seat l = lead_from ranks seat (seat (get_or l 0 0)) l
 
-abbrev pub chosen_of : (ranks : List ℕ) → (ℕ → Seat) → (candidates : List ℕ) → Choice
-chosen_of ranks seat [] = Nothing
-chosen_of ranks seat (a ∷ l) = Sits (least_rank ranks seat (lead_of ranks seat (a ∷ l)) (a ∷ l))
+abbrev pub chosen_of : (ranks : List ℕ) → (ℕ → Seat) → (candidates : List ℕ) → Option Seat
+chosen_of ranks seat [] = None
+chosen_of ranks seat (a ∷ l) = Some (least_rank ranks seat (lead_of ranks seat (a ∷ l)) (a ∷ l))
 
 -- ---- placing
 
@@ -133,14 +131,14 @@ with_settled b settled =
 abbrev pub scanned : Problem → Genes → Board → Board
 scanned p g b = with_settled b (scan_of p g b.settled).settled
 
-abbrev pub choice_on : Problem → Genes → (ranks : List ℕ) → Board → Choice
+abbrev pub choice_on : Problem → Genes → (ranks : List ℕ) → Board → Option Seat
 choice_on p g ranks b = chosen_of ranks (seat_now p g b.ends b.lines b.steps) (scan_of p g b.settled).candidates
 
 -- the board is scanned; `fuel` more can be placed
-unfoldable pub place_from : Problem → Genes → (ranks : List ℕ) → (fuel : ℕ) → Choice → Board → Board
+unfoldable pub place_from : Problem → Genes → (ranks : List ℕ) → (fuel : ℕ) → Option Seat → Board → Board
 place_from p g ranks zero choice b = b
-place_from p g ranks (suc fuel) Nothing b = b
-place_from p g ranks (suc fuel) (Sits x) b =
+place_from p g ranks (suc fuel) None b = b
+place_from p g ranks (suc fuel) (Some x) b =
     place_from p g ranks fuel (choice_on p g ranks (sit p x b)) (scanned p g (sit p x b))
 
 abbrev pub place_all : Problem → Genes → (ranks : List ℕ) → (fuel : ℕ) → Board → Board

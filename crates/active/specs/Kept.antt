@@ -1,7 +1,6 @@
 -- What is kept from one placing to the next, in rows of 32 cells, one for each task: how far it is passed, where it ends, and the seat of
 -- its next activity. What is written here decides nothing: it is what the rules would work out again.
-use Rattle.std.specs.Prelude.{ℕ, zero, suc, ◌+◌, ◌≤◌, ◌<◌, ◌≡◌, Bool, false, cond, not, ◌&&◌, List, [], ◌∷◌, eqb, ltb, length, get_or, set}
-use Rattle.std.proofs.Math.Option.{Option, none, some}
+use Rattle.std.specs.Prelude.{ℕ, zero, suc, ◌+◌, ◌≤◌, ◌<◌, ◌≡◌, Bool, false, cond, not, ◌&&◌, List, [], ◌∷◌, eqb, ltb, length, get_or, set, Some, None, Option}
 use Rattle.plan.specs.Problem.{Problem, Genes}
 use Rattle.board.specs.declared.Seat.{Seat}
 use Rattle.graph.specs.Counting.{Below}
@@ -11,13 +10,13 @@ use Rattle.active.specs.Active.{settled_in, any_unsettled, scan_of, seat_now}
 
 -- 16 where there is none
 abbrev pub machine_code : Option ℕ → ℕ
-machine_code none = 16
-machine_code (some m) = m
+machine_code None = 16
+machine_code (Some m) = m
 
 pub record Manned (g : Genes) (n : ℕ) (on : List ℕ) : Type 0 where
   pub sized : length on ≡ 128
   pub coded : (a : ℕ) → a < n → get_or on a 0 ≡ machine_code (g.assigned a)
-  pub known : (a m : ℕ) → g.assigned a ≡ some m → m < 16
+  pub known : (a m : ℕ) → g.assigned a ≡ Some m → m < 16
 
 -- a task stops at an activity that is not settled and has a machine
 abbrev pub stops_here : (on settled : List ℕ) → ℕ → Bool
@@ -74,7 +73,7 @@ abbrev pub keep_seat : Problem → Genes → (ends lines steps kept : List ℕ) 
 keep_seat p g ends lines steps kept t a = cond (eqb (held_in kept t) a) kept (with_seat kept t (seat_now p g ends lines steps a))
 
 -- the seats on a machine forgotten, of the first k tasks
-unfoldable pub forgotten : (none machine : ℕ) → ℕ → (kept : List ℕ) → List ℕ
+unfoldable pub forgotten : (None machine : ℕ) → ℕ → (kept : List ℕ) → List ℕ
 forgotten n m zero kept = kept
 forgotten n m (suc k) kept = cond (eqb (get_or kept (machine_row + k) 0) m) (set (forgotten n m k kept) (activity_row + k) n) (forgotten n m k kept)
 
@@ -114,7 +113,7 @@ pub record Fresh (p : Problem) (kept : List ℕ) : Type 0 where
   pub sized : length kept ≡ 224
   pub next : (t : ℕ) → t < p.tasks → next_in kept t ≡ p.first t
   pub last : (t : ℕ) → t < p.tasks → last_in kept t ≡ p.first t + p.steps t
-  pub none : (t : ℕ) → t < p.tasks → held_in kept t ≡ p.n
+  pub None : (t : ℕ) → t < p.tasks → held_in kept t ≡ p.n
 
 -- ---- the scan
 
@@ -133,4 +132,4 @@ pub record Offered (n : ℕ) (ranks kept tasks : List ℕ) : Type 0 where
   pub known : (k : ℕ) → k < length tasks → held_in kept (get_or tasks k 0) < n
   pub ranked : length ranks ≡ 128
   pub few : n ≤ 128
-  pub some : 0 < length tasks
+  pub Some : 0 < length tasks

@@ -9,7 +9,6 @@ ghost use Rattle.active.specs.Active.{seat_now, sooner, contends, preferred, lea
 ghost use Rattle.active.specs.Kept.{seat_in, Kept, Offered};
 ghost use Rattle.active.specs.Asked.{Chosen};
 
-use crate::Choice;
 use crate::scanning::scan;
 use crate::seats::seat_at;
 use board::Seat;
@@ -105,7 +104,7 @@ pub fn choose(
     steps: &[usize],
     settled: &mut [usize],
     kept: &mut [usize],
-) -> Choice
+) -> Option<Seat>
     requires placed { Placed z × Accepted (problem_of (words s.now) z) (genes_of (words s.now) z) × Tabled (problem_of (words s.now) z) table.now }
     requires chosen { Chosen (problem_of (words s.now) z) (genes_of (words s.now) z) ranks.now on.now ends.now lines.now steps.now settled.old kept.old }
     ensures choice { result ≡ chosen_of ranks.now (seat_now (problem_of (words s.now) z) (genes_of (words s.now) z) ends.now lines.now steps.now) (scan_of (problem_of (words s.now) z) (genes_of (words s.now) z) settled.old).candidates }
@@ -126,10 +125,10 @@ pub fn choose(
         &mut offered,
     );
     if found == 0 {
-        return Choice::Nothing;
+        return None;
     }
     let tasks = &offered[..found];
     let lead = lead_of(z.activities, ranks, kept, tasks);
     let seat = least_rank(z.activities, ranks, kept, lead, tasks);
-    Choice::Sits(seat)
+    Some(seat)
 }

@@ -9,9 +9,3 @@ mod seats;
 use board::Seat;
 pub use placing::place_active;
 
-// The seat that is taken next.
-#[derive(Clone, Copy)]
-pub enum Choice {
-    Nothing,
-    Sits(Seat),
-}

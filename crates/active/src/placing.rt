@@ -12,7 +12,6 @@ ghost use Rattle.in_order.specs.Waiting.{Rooms, Timed};
 ghost use Rattle.active.specs.Active.{ranks_of, place_all, place_active};
 ghost use Rattle.active.specs.Asked.{Begun, Started};
 
-use crate::Choice;
 use crate::choosing::choose;
 use crate::scanning::put_ranks;
 use crate::seats::{begin, fill_on, forget};
@@ -41,7 +40,7 @@ fn place_chosen(
 {
     let mut count = 0;
     loop {
-        let Choice::Sits(seat) = choose(s, z, table, ranks, on, ends, lines, steps, settled, kept)
+        let Some(seat) = choose(s, z, table, ranks, on, ends, lines, steps, settled, kept)
         else {
             return count;
         };

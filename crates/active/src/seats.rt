@@ -10,8 +10,7 @@ ghost use Rattle.active.specs.Kept.{machine_code, activity_row, seat_in, with_se
 ghost use Rattle.active.specs.Asked.{Timely};
 
 use board::Seat;
-use graph::Link;
-use plan::{Layout, Machine};
+use plan::Layout;
 
 // Where each row of what is kept begins, after the first, which says how far a task is passed.
 pub const LAST_ROW: usize = 32;
@@ -31,7 +30,7 @@ fn machine_code(s: &[u8], z: Layout, a: usize) -> usize
     requires { Placed z × (a < 2 ^ 32) }
     ensures { result ≡ machine_code ((genes_of (words s.now) z).assigned a) }
 {
-    let Machine::On(m) = plan::assigned(s, z, a) else {
+    let Some(m) = plan::assigned(s, z, a) else {
         return 16;
     };
     m
@@ -80,7 +79,7 @@ fn seat_of(
     requires a_lt_activities { (a < z.activities) × Timely z.activities ends.now lines.now steps.now }
     ensures { result ≡ seat_now (problem_of (words s.now) z) (genes_of (words s.now) z) ends.now lines.now steps.now a }
 {
-    let m = board::machine_from(s, z, Link::To(a));
+    let m = board::machine_from(s, z, Some(a));
     let line = board::last_placed(lines, m, z.activities);
     let task = tables::owner(table, a);
     let step = board::last_placed(steps, task, z.activities);

@@ -1,4 +1,5 @@
 -- The heads and tails of a stretch: of one activity, and of all of them in turn.
+use Rattle.std.specs.Prelude.{Option, Some, ℕ}
 use Prim.Native.Nat.{ℕ, zero, suc, ◌+◌, ◌-◌, ◌*◌, ◌^◌, ◌≤◌, ◌<◌, max}
 use mathlib.Core.Path.{◌≡◌, refl, sym, ap, ◌∙◌}
 use mathlib.Core.List.{List, [], ◌∷◌}
@@ -9,8 +10,6 @@ use lib.Seq.{get_or-set_same, get_or-set_other}
 use Rattle.graph.specs.Counting.{Below}
 use Rattle.graph.specs.Links.{linked}
 use Rattle.graph.specs.Shop.{greatest}
-use Rattle.graph.specs.declared.Link.{Link}
-use Rattle.graph.specs.declared.Link.TheVariants.{To}
 use Rattle.graph.proofs.CountingLaws.{either, below_at}
 use Rattle.graph.proofs.ShopTheorem.{greatest-least}
 use Rattle.plan.specs.Problem.{Problem}
@@ -23,7 +22,7 @@ use Rattle.path.specs.Following.{Addable}
 use Rattle.blocks.specs.Estimates.{head_of, rest_of, Through, joined, through, ready_after, end_before, after_at}
 use Rattle.blocks.specs.Weighing.{Weighed, Low, Lined, Reordering, Known, HeadsHeld}
 
-pub one_linked : (f : ℕ → ℕ) {link : Link} (x m : ℕ) → link ≡ To x → max m (f x) ≡ greatest f (linked link) m
+pub one_linked : (f : ℕ → ℕ) {link : Option ℕ} (x m : ℕ) → link ≡ Some x → max m (f x) ≡ greatest f (linked link) m
 unfolding greatest
 one_linked f x m e = rw e
 

@@ -1,5 +1,6 @@
 -- What block moves ask is so of an accepted problem and of lines that were timed without contradiction: the critical path names no activity
 -- twice, and each activity stands at its place.
+use Rattle.std.specs.Prelude.{None, Option, Some, ℕ}
 use Prim.Native.Nat.{ℕ, zero, suc, ◌+◌, ◌^◌, ◌≤◌, ◌<◌}
 use mathlib.Core.Path.{◌≡◌, refl, ap}
 use mathlib.Core.Bool.{false}
@@ -7,8 +8,6 @@ use mathlib.Core.List.{List, [], ◌∷◌}
 use native.Mathlib.Omega.{arith}
 use lib.ListN.{length, get_or}
 use Rattle.graph.specs.Counting.{Below, count_of, hit}
-use Rattle.graph.specs.declared.Link.{Link}
-use Rattle.graph.specs.declared.Link.TheVariants.{To, Nothing}
 use Rattle.graph.proofs.CountingLaws.{either, hit-eq, hit-ne}
 use Rattle.plan.specs.Problem.{Problem, Genes}
 use Rattle.plan.specs.Accepted.{Accepted}
@@ -34,16 +33,16 @@ use Rattle.blocks.specs.Scanning.{Pathed, Searched}
 -- ---- the path names no activity twice
 
 -- Each step back falls to a lower rank than all that the path has so far.
-walk_once : (n : ℕ) (back : ℕ → Link) (rank : ℕ → ℕ) → ((a q : ℕ) → a < n → back a ≡ To q → (q < n) × (rank q < rank a)) → (most : ℕ) (link : Link) (path : List ℕ)
-    → ((q : ℕ) → link ≡ To q → (q < n) × ((b : ℕ) → 0 < count_of b path → rank q < rank b)) → ((b : ℕ) → count_of b path ≤ 1)
+walk_once : (n : ℕ) (back : ℕ → Option ℕ) (rank : ℕ → ℕ) → ((a q : ℕ) → a < n → back a ≡ Some q → (q < n) × (rank q < rank a)) → (most : ℕ) (link : Option ℕ) (path : List ℕ)
+    → ((q : ℕ) → link ≡ Some q → (q < n) × ((b : ℕ) → 0 < count_of b path → rank q < rank b)) → ((b : ℕ) → count_of b path ≤ 1)
     → (b : ℕ) → count_of b (walk_back back most link path) ≤ 1
 unfolding walk_back count_of
 walk_once n back rank falls zero link path k o = o
-walk_once n back rank falls (suc most) Nothing path k o = o
-walk_once n back rank falls (suc most) (To a) path k o =
+walk_once n back rank falls (suc most) None path k o = o
+walk_once n back rank falls (suc most) (Some a) path k o =
     walk_once n back rank falls most (back a) (a ∷ path) (λ q e. ((falls a q (k a refl).0 e).0, λ b c. lower q e b c)) (λ b. fresh b)
   where
-    lower : (q : ℕ) → back a ≡ To q → (b : ℕ) → 0 < hit a b + count_of b path → rank q < rank b
+    lower : (q : ℕ) → back a ≡ Some q → (b : ℕ) → 0 < hit a b + count_of b path → rank q < rank b
     lower q e b c =
         let f = (falls a q (k a refl).0 e).1 in
         either a b

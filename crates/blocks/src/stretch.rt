@@ -11,7 +11,6 @@ ghost use Rattle.path.specs.Following.{Addable};
 ghost use Rattle.blocks.specs.Estimates.{end_before, after_at, estimate_of};
 ghost use Rattle.blocks.specs.Weighing.{Weighed, Low, Lined, Reordering, Known, Headed, Estimable, HeadsHeld};
 
-use graph::Link;
 
 fn greater(a: u64, b: u64) -> u64
     ensures { result ≡ max a b }
@@ -23,11 +22,11 @@ fn greater(a: u64, b: u64) -> u64
 }
 
 // The later of a time and of the linked one's end.
-fn later_end(link: Link, ends: &[u64], first: u64) -> u64
+fn later_end(link: Option<usize>, ends: &[u64], first: u64) -> u64
     requires { Below (length ends.now) (linked link) }
     ensures { result ≡ greatest (λ x. get_or ends.now x 0) (linked link) first }
 {
-    let Link::To(x) = link else {
+    let Some(x) = link else {
         return first;
     };
     greater(first, ends[x])
@@ -42,11 +41,11 @@ fn span_and_tail(starts: &[u64], ends: &[u64], tail: &[u64], x: usize) -> u64
 }
 
 // The greater of a time and of the linked one's span plus tail.
-fn later_rest(link: Link, starts: &[u64], ends: &[u64], tail: &[u64], first: u64) -> u64
+fn later_rest(link: Option<usize>, starts: &[u64], ends: &[u64], tail: &[u64], first: u64) -> u64
     requires { Below (length tail.now) (linked link) × Addable (length tail.now) starts.now ends.now tail.now }
     ensures { result ≡ greatest (λ x. get_or ends.now x 0 - get_or starts.now x 0 + get_or tail.now x 0) (linked link) first }
 {
-    let Link::To(x) = link else {
+    let Some(x) = link else {
         return first;
     };
     greater(first, span_and_tail(starts, ends, tail, x))

@@ -1,5 +1,6 @@
 -- Boards stay sound: the empty one is, and settling and placing keep it so. On a sound board the seat by the board's rule is the seat that
 -- the links and the way give.
+use Rattle.std.specs.Prelude.{None, Option, Some, ℕ}
 use Prim.Native.Nat.{ℕ, ◌+◌, ◌*◌, ◌≤◌, ◌<◌, max}
 use mathlib.Core.Path.{◌≡◌, refl, sym, ap, ap₂, ◌∙◌, subst}
 use mathlib.Core.Bool.{Bool, true, false}
@@ -12,8 +13,6 @@ use lib.Seq.{get_or-set_same, get_or-set_other, take-suc-set}
 use Rattle.graph.specs.Counting.{count_of, hit, Below}
 use Rattle.graph.specs.Links.{linked}
 use Rattle.graph.specs.Shop.{greatest}
-use Rattle.graph.specs.declared.Link.{Link}
-use Rattle.graph.specs.declared.Link.TheVariants.{To, Nothing}
 use Rattle.graph.proofs.CountingLaws.{hit-ne, hit-le, either, count_of-append, count_all, sum_to-le, below_append}
 use Rattle.graph.proofs.NamingLaws.{zeros_at}
 use Rattle.plan.specs.Problem.{Problem, Genes}
@@ -38,11 +37,11 @@ those_bind test f (a ∷ l) m h = go (test a) refl (λ k. those_bind test f l k 
         let z : max m (f a) ≡ m = omega (arith, h a e) in
         rw e (rest m ∙ ap (greatest f l) (sym z))
 
-step_way : (p : Problem) (on ends : ℕ → ℕ) (m k : ℕ) (step : Link)
+step_way : (p : Problem) (on ends : ℕ → ℕ) (m k : ℕ) (step : Option ℕ)
     → greatest (λ q. ends q + p.transport (machine_before step on) m) (linked step) k ≡ greatest (λ q. ends q + p.transport (on q) m) (linked step) k
 unfolding greatest
-step_way p on ends m k Nothing = refl
-step_way p on ends m k (To q) = refl
+step_way p on ends m k None = refl
+step_way p on ends m k (Some q) = refl
 
 no_end : {n : ℕ} {b : Board} → Sound n b → (a : ℕ) → is_settled b a ≡ false → end_of b a ≡ 0
 no_end {n} {b} s a e = s.unsettled a (let ne = eqb-false (get_or b.settled a 0) 1 e in omega (arith, s.flags a, ne))
@@ -53,7 +52,7 @@ module _ (p : Problem) (on : ℕ → ℕ) {b : Board} (s : Sound p.n b) (a m : �
       sym (those_bind (is_settled b) (end_of b) (p.predecessors a) _ (no_end s))
       ∙ ap (greatest (end_of b) (those (is_settled b) (p.predecessors a))) (step_way p on (end_of b) m _ (last_of p b (p.task_of a)))
 
-  pub seat_is : {line step : Link} {way : ℕ} → line ≡ last_on p b m → step ≡ last_of p b (p.task_of a) → way ≡ p.transport (machine_before step on) m
+  pub seat_is : {line step : Option ℕ} {way : ℕ} → line ≡ last_on p b m → step ≡ last_of p b (p.task_of a) → way ≡ p.transport (machine_before step on) m
       → seat_after p a m line step way (end_of b) ≡ seat p on b a m
   seat_is {line} {step} {way} el es ew = rw (ew, es, el) (ap (seat_from p a m (last_on p b m)) start_is)
 
@@ -190,13 +189,13 @@ sit_room s t task a m k c =
 -- ---- no end is later than document 01 says
 
 module _ (p : Problem) (g : Genes) (ok : Accepted p g) (on : ℕ → ℕ) (within : (q : ℕ) → q < p.n → on q < p.machines) {b : Board} (s : Sound p.n b) where
-  before_within : (step : Link) → Below p.n (linked step) → machine_before step on < p.machines
+  before_within : (step : Option ℕ) → Below p.n (linked step) → machine_before step on < p.machines
   unfolding Below
-  before_within Nothing h = omega (arith, ok.machines.0)
-  before_within (To q) h = within q h.0
+  before_within None h = omega (arith, ok.machines.0)
+  before_within (Some q) h = within q h.0
 
   -- the machine that the last placed of a task is on
-  pub from_known : (t : ℕ) {step : Link} → step ≡ last_of p b t → machine_before step on < p.machines
+  pub from_known : (t : ℕ) {step : Option ℕ} → step ≡ last_of p b t → machine_before step on < p.machines
   from_known t {step} e = rw e (before_within (last_of p b t) (last_below p.n b.steps t))
 
   module _ (a m : ℕ) (ha : a < p.n) (hm : m < p.machines) where

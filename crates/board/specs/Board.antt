@@ -1,10 +1,9 @@
 -- Document 01, "Two decoders": both use the bounds of timing, with the last placed on the machine and of the task as line and task
 -- predecessor; unsettled predecessors bind nothing. An activity without a machine is settled, its end is 0, and it is not placed.
-use Rattle.std.specs.Prelude.{ℕ, ◌+◌, Bool, List, [], ◌∷◌, ◌++◌, eqb, ltb, get_or, set, take, replicate}
+use Rattle.std.specs.Prelude.{ℕ, ◌+◌, Bool, List, [], ◌∷◌, ◌++◌, eqb, ltb, get_or, set, take, replicate, Option}
 use Rattle.graph.specs.Filing.{cons_if}
 use Rattle.graph.specs.Links.{linked, to_if}
 use Rattle.graph.specs.Shop.{greatest}
-use Rattle.graph.specs.declared.Link.{Link}
 use Rattle.plan.specs.Problem.{Problem}
 use Rattle.bounds.specs.Bounds.{setup_of, span_of}
 use Rattle.timing.specs.Placing.{start_after}
@@ -55,13 +54,13 @@ abbrev pub end_of : Board → ℕ → ℕ
 end_of b a = get_or b.ends a 0
 
 -- the last placed that a cell tells of, of n activities
-abbrev pub last_placed : (n : ℕ) → (cells : List ℕ) → ℕ → Link
+abbrev pub last_placed : (n : ℕ) → (cells : List ℕ) → ℕ → Option ℕ
 last_placed n cells k = to_if (ltb (get_or cells k 0) n) (get_or cells k 0)
 
-abbrev pub last_on : Problem → Board → (machine : ℕ) → Link
+abbrev pub last_on : Problem → Board → (machine : ℕ) → Option ℕ
 last_on p b m = last_placed p.n b.lines m
 
-abbrev pub last_of : Problem → Board → (task : ℕ) → Link
+abbrev pub last_of : Problem → Board → (task : ℕ) → Option ℕ
 last_of p b t = last_placed p.n b.steps t
 
 unfoldable pub those : (ℕ → Bool) → List ℕ → List ℕ
@@ -75,7 +74,7 @@ start_on p on b a m =
     (greatest (λ q. end_of b q + p.transport (on q) m) (linked (last_of p b (p.task_of a))) (greatest (end_of b) (linked (last_on p b m)) (p.release a)))
 
 -- an activity's place on its machine, from its start and the one before it there
-abbrev pub seat_from : Problem → (activity machine : ℕ) → (line : Link) → (start : ℕ) → Seat
+abbrev pub seat_from : Problem → (activity machine : ℕ) → (line : Option ℕ) → (start : ℕ) → Seat
 seat_from p a m line start =
     record {
       activity = a;
@@ -89,7 +88,7 @@ abbrev pub seat : Problem → (on : ℕ → ℕ) → Board → (activity machine
 seat p on b a m = seat_from p a m (last_on p b m) (start_on p on b a m)
 
 -- .. after `line` on its machine and `step` in its task, with the way from that one's machine
-abbrev pub seat_after : Problem → (activity machine : ℕ) → (line step : Link) → (way : ℕ) → (ends : ℕ → ℕ) → Seat
+abbrev pub seat_after : Problem → (activity machine : ℕ) → (line step : Option ℕ) → (way : ℕ) → (ends : ℕ → ℕ) → Seat
 seat_after p a m line step way ends = seat_from p a m line (start_after p a line step way ends)
 
 -- settled, unplaced

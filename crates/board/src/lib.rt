@@ -16,8 +16,7 @@ ghost use Rattle.timing.specs.Placing.{machine_before};
 ghost use Rattle.board.specs.Board.{board_of, empty_board, last_placed, seat_after, sit};
 ghost use Rattle.board.specs.Sound.{Room};
 
-use graph::Link;
-use plan::{Layout, Machine};
+use plan::Layout;
 
 // An activity's place on its machine.
 #[derive(Clone, Copy)]
@@ -30,26 +29,26 @@ pub struct Seat {
 }
 
 // The last placed on a machine or of a task, of n activities.
-pub fn last_placed(cells: &[usize], k: usize, n: usize) -> Link
+pub fn last_placed(cells: &[usize], k: usize, n: usize) -> Option<usize>
     requires { k < length cells.now }
     ensures { result ≡ last_placed n cells.now k }
 {
     let a = cells[k];
     if a < n {
-        return Link::To(a);
+        return Some(a);
     }
-    Link::Nothing
+    None
 }
 
 // The machine that the genes give the last placed of a task; 0 where there is none.
-pub fn machine_from(s: &[u8], z: Layout, step: Link) -> usize
+pub fn machine_from(s: &[u8], z: Layout, step: Option<usize>) -> usize
     requires { Placed z × Below z.activities (linked step) }
     ensures { result ≡ machine_before step (assigned_to (genes_of (words s.now) z)) }
 {
-    let Link::To(q) = step else {
+    let Some(q) = step else {
         return 0;
     };
-    let Machine::On(m) = plan::assigned(s, z, q) else {
+    let Some(m) = plan::assigned(s, z, q) else {
         return 0;
     };
     m
@@ -62,8 +61,8 @@ pub fn seat_after(
     table: &[usize],
     a: usize,
     m: usize,
-    line: Link,
-    step: Link,
+    line: Option<usize>,
+    step: Option<usize>,
     way: u64,
     ends: &[u64],
 ) -> Seat

@@ -1,8 +1,8 @@
 -- Laws of tardiness: a difference clamped at 0, by the word of a deadline.
+use Rattle.std.specs.Prelude.{Some}
 use Prim.Native.Nat.{ℕ, zero, suc, ◌+◌, ◌-◌, ◌^◌, ◌≤◌, ◌<◌}
 use mathlib.Core.Path.{◌≡◌, refl, ap}
 use mathlib.Core.Bool.{Bool, true, false}
-use mathlib.Core.Option.{some}
 use native.Mathlib.Omega.{arith}
 use native.Mathlib.Nat.{not-suc-le-zero}
 use borrow.Author.Tests.{lt-ltb, le-ltb, ltb-true, ltb-false}
@@ -28,9 +28,9 @@ clamped_difference a b = go (ltb a b) refl
     go false e = rw (difference_above a b (ltb-false a b e))
 
 -- a deadline of 0 or more
-pub late_low : (completion w : ℕ) → w < 2 ^ 31 → tardiness_of completion (some (signed_word w)) ≡ completion - w
+pub late_low : (completion w : ℕ) → w < 2 ^ 31 → tardiness_of completion (Some (signed_word w)) ≡ completion - w
 late_low completion w h = rw (signed_low w h) (clamped_difference completion w)
 
 -- a deadline below 0
-pub late_high : (completion w : ℕ) → 2 ^ 31 ≤ w → w < 2 ^ 32 → tardiness_of completion (some (signed_word w)) ≡ completion + (2 ^ 32 - w)
+pub late_high : (completion w : ℕ) → 2 ^ 31 ≤ w → w < 2 ^ 32 → tardiness_of completion (Some (signed_word w)) ≡ completion + (2 ^ 32 - w)
 late_high completion w h g = rw (signed_high w h) (omega arith)

@@ -1,9 +1,9 @@
 -- Laws of an accepted plan's tasks: their activities are among all, how late one can be, and how great both sums.
+use Rattle.std.specs.Prelude.{Option, Some, None}
 use Prim.Native.Nat.{ℕ, zero, suc, ◌+◌, ◌*◌, ◌-◌, ◌^◌, ◌≤◌, ◌<◌}
 use mathlib.Core.Path.{◌≡◌, refl, ap, ◌∙◌}
 use mathlib.Core.Bool.{Bool, true, false}
 use mathlib.Core.List.{List}
-use mathlib.Core.Option.{Option, none, some}
 use native.Mathlib.Omega.{arith}
 use borrow.Author.Tests.{ltb-true, ltb-false}
 use lib.Dec.{eqb, ltb}
@@ -14,11 +14,8 @@ use Rattle.words.proofs.SignedLaws.{signed_high}
 use Rattle.plan.specs.Problem.{Problem, Genes}
 use Rattle.plan.specs.Input.{cell, some_if, problem_of, genes_of}
 use Rattle.plan.specs.Accepted.{Accepted}
-use Rattle.plan.specs.Found.{due_of}
-use Rattle.plan.specs.declared.Due.{Due}
 use Rattle.plan.specs.declared.Layout.{Layout}
 use Rattle.bounds.specs.Bounds.{tardiness_of}
-use Rattle.bounds.specs.Due.{deadline_in}
 use Rattle.bounds.proofs.LateLaws.{late_low}
 use Rattle.fitness.specs.Fitness.{completion_of, makespan_of, lateness, late_of, sums_of, fitness_of, latest, sum_to}
 use Rattle.fitness.specs.declared.Sums.{Sums}
@@ -46,19 +43,19 @@ module _ {p : Problem} {g : Genes} (plan : Accepted p g) where
 
 -- ---- a completion and a tardiness, worked out from what was looked up
 
-same_deadline : (d : Option ℤ) → deadline_in (due_of d) ≡ d
-same_deadline none = refl
-same_deadline (some d) = refl
+same_deadline : (d : Option ℤ) → (d) ≡ d
+same_deadline None = refl
+same_deadline (Some d) = refl
 
 module _ (p : Problem) (ends : ℕ → ℕ) (t : ℕ) where
   pub completion_is : (first steps done : ℕ) → done ≡ latest ends first steps → first ≡ p.first t → steps ≡ p.steps t → done ≡ completion_of p ends t
   completion_is first steps done d f s = cc
 
-  pub lateness_is : (done r : ℕ) {due : Due} → r ≡ tardiness_of done (deadline_in due) → due ≡ due_of (p.deadline t) → done ≡ completion_of p ends t
+  pub lateness_is : (done r : ℕ) {due : Option ℤ} → r ≡ tardiness_of done (due) → due ≡ (p.deadline t) → done ≡ completion_of p ends t
       → r ≡ lateness p ends t
   lateness_is done r {due} e d f =
-      e ∙ ap (λ (x : ℕ). tardiness_of x (deadline_in due)) f
-      ∙ ap (tardiness_of (completion_of p ends t)) (ap deadline_in d ∙ same_deadline (p.deadline t))
+      e ∙ ap (λ (x : ℕ). tardiness_of x (due)) f
+      ∙ ap (tardiness_of (completion_of p ends t)) (ap d ∙ same_deadline (p.deadline t))
 
 pub sums_are : (p : Problem) (ends : ℕ → ℕ) {makespan late : ℕ} → makespan ≡ makespan_of p ends → late ≡ late_of p ends
     → ◌≡◌ {A = Sums} (record { makespan = makespan; late = late }) (sums_of p ends)
@@ -82,10 +79,10 @@ module _ {p : Problem} {g : Genes} (plan : Accepted p g) (ends others : ℕ → 
 
 -- ---- how late a task can be: a deadline lies at most 2 ^ 31 below 0
 
-late_most : (completion w : ℕ) → tardiness_of completion (some (signed_word w)) ≤ completion + 2 ^ 31
+late_most : (completion w : ℕ) → tardiness_of completion (Some (signed_word w)) ≤ completion + 2 ^ 31
 late_most completion w = by_sign (ltb w (2 ^ 31)) refl
   where
-    by_sign : (b : Bool) → ltb w (2 ^ 31) ≡ b → tardiness_of completion (some (signed_word w)) ≤ completion + 2 ^ 31
+    by_sign : (b : Bool) → ltb w (2 ^ 31) ≡ b → tardiness_of completion (Some (signed_word w)) ≤ completion + 2 ^ 31
     by_sign true e = omega (arith, late_low completion w (ltb-true _ _ e))
     by_sign false e = let h : 2 ^ 31 ≤ w = ltb-false _ _ e in rw (signed_high w h) (omega arith)
 

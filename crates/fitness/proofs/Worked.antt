@@ -1,10 +1,10 @@
 -- Document 01's plan S as far as its fitness goes: two tasks of two activities, weight 0.5, no deadlines. Its ends are 3 7 4 12 as it comes,
 -- 3 13 4 9 with the second machine's two swapped, 4 10 1 6 improved (P1 to P3). And deadlines, one below 0, which an empty placing misses too.
+use Rattle.std.specs.Prelude.{None, Option, Some}
 use Prim.Native.Nat.{ℕ, zero, suc, ◌*◌}
 use mathlib.Core.Path.{◌≡◌, refl}
 use mathlib.Core.Bool.{true, false}
 use mathlib.Core.List.{List, [], ◌∷◌}
-use mathlib.Core.Option.{Option, none, some}
 use lib.IntN.{ℤ, pos, negsuc}
 use lib.ListN.{get_or}
 use lib.Ieee.{Float, fin, binary64, add, sub, mul, of_int, to_bits, lt}
@@ -34,13 +34,13 @@ plan deadline =
       process = λ a m. 0;
       teardown = λ a m. 0;
       transport = λ l m. 0;
-      change = λ m b c. none;
+      change = λ m b c. None;
       weight = half;
       limit = 0;
     }
 
 abbrev pub plan_s : Problem
-plan_s = plan (λ t. none)
+plan_s = plan (λ t. None)
 
 abbrev pub ends : List ℕ → ℕ → ℕ
 ends list a = get_or list a 0
@@ -76,8 +76,8 @@ improved-better = refl
 -- ---- deadlines
 
 abbrev pub first_due : ℤ → ℕ → Option ℤ
-first_due d zero = some d
-first_due d (suc t) = none
+first_due d zero = Some d
+first_due d (suc t) = None
 
 -- A task goes by its own completion, 7, not by the makespan, 12: 2 late, so 0.5 * 12 + 0.5 * 2 = 7.0.
 pub own_completion : fitness_of (plan (first_due (pos 5))) (ends (3 ∷ 7 ∷ 4 ∷ 12 ∷ [])) ≡ fin false 7 (pos 0)

@@ -11,7 +11,7 @@ ghost use Rattle.fitness.specs.Ended.{Ended};
 ghost use Rattle.fitness.specs.Rising.{Rising, row_from};
 
 use crate::{Row, Sums, weighted};
-use plan::{Due, Layout};
+use plan::Layout;
 
 // Three words that follow each other.
 fn row_words(s: &[u8], at: usize) -> Row
@@ -51,7 +51,7 @@ fn late_in(of: Row, done: u64) -> u64
     }
     let word = of.deadline;
     let d = words::signed_word(word);
-    bounds::tardiness(done, Due::At(d))
+    bounds::tardiness(done, Some(d))
 }
 
 // Both sums of ends that rise within each task.

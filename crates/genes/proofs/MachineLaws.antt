@@ -1,10 +1,9 @@
 -- The machines that the genes give: the loop that fills them in, and that each is one that there is. Assumes nothing.
+use Rattle.std.specs.Prelude.{None, Some, unwrap_or, Option}
 use Prim.Native.Nat.{ℕ, suc, ◌+◌, ◌-◌, ◌≤◌, ◌<◌}
 use mathlib.Core.Path.{◌≡◌, refl, ap, ◌∙◌}
 use mathlib.Core.Bool.{Bool, true, false, ◌&&◌}
 use mathlib.Core.List.{List, [], ◌∷◌}
-use mathlib.Core.Option
-use mathlib.Core.Option.{Option, none, some}
 use native.Mathlib.Numerals.{add-one}
 use native.Mathlib.Omega.{arith}
 use lib.ListN.{length, get_or, set, take, length-set}
@@ -13,21 +12,19 @@ use Rattle.graph.specs.Counting.{Below}
 use Rattle.graph.proofs.CountingLaws.{either, below_at}
 use Rattle.plan.specs.Problem.{Problem, Genes}
 use Rattle.plan.specs.Accepted.{Accepted}
-use Rattle.plan.specs.Found.{machine_or}
-use Rattle.plan.specs.declared.Machine.TheVariants.{On, Nothing}
 use Rattle.genes.specs.Indexed.{assigned_to, assigned_below}
 use Rattle.genes.specs.Held.{filled_to}
 use Rattle.genes.proofs.HeldLaws.{filled_more, filled_at, filled_kept, filled_length}
 
 -- ---- `fill_machines`: the cells and the answer after k activities
 
-none_is : (o : Option ℕ) → Nothing ≡ machine_or o → o ≡ none
-none_is none e = refl
-none_is (some m) e = let z : ◌≡◌ {A = ℕ} 0 1 = cc in absurd (omega arith)
+none_is : (o : Option ℕ) → None ≡ o → o ≡ None
+none_is None e = refl
+none_is (Some m) e = let z : ◌≡◌ {A = ℕ} 0 1 = cc in absurd (omega arith)
 
-some_is : (o : Option ℕ) (m : ℕ) → On m ≡ machine_or o → o ≡ some m
-some_is none m e = let z : ◌≡◌ {A = ℕ} 0 1 = cc in absurd (omega arith)
-some_is (some x) m e = cc
+some_is : (o : Option ℕ) (m : ℕ) → Some m ≡ o → o ≡ Some m
+some_is None m e = let z : ◌≡◌ {A = ℕ} 0 1 = cc in absurd (omega arith)
+some_is (Some x) m e = cc
 
 pub record Filling (g : Genes) (n : ℕ) (cells₀ cells : List ℕ) (all : Bool) (k : ℕ) : Type 0 where
   pub within : k ≤ n
@@ -57,16 +54,16 @@ module _ {g : Genes} {n : ℕ} {cells₀ cells : List ℕ} {all : Bool} {k : ℕ
         told = t;
       }
 
-  pub fill_on : (m x : ℕ) → x ≡ m → k < n → On m ≡ machine_or (g.assigned k) → Filling g n cells₀ (set cells k x) all (k + 1)
+  pub fill_on : (m x : ℕ) → x ≡ m → k < n → Some m ≡ (g.assigned k) → Filling g n cells₀ (set cells k x) all (k + 1)
   unfolding assigned_below
   fill_on m x f h e =
-      let s : g.assigned k ≡ some m = some_is (g.assigned k) m e in
+      let s : g.assigned k ≡ Some m = some_is (g.assigned k) m e in
       filling x all h (rw (s, f)) (rw (add-one, s, ← w.told) (and_true all))
 
-  pub fill_without : (told : Bool) → told ≡ false → k < n → Nothing ≡ machine_or (g.assigned k) → Filling g n cells₀ (set cells k 0) told (k + 1)
+  pub fill_without : (told : Bool) → told ≡ false → k < n → None ≡ (g.assigned k) → Filling g n cells₀ (set cells k 0) told (k + 1)
   unfolding assigned_below
   fill_without told f h e =
-      let s : g.assigned k ≡ none = none_is (g.assigned k) e in
+      let s : g.assigned k ≡ None = none_is (g.assigned k) e in
       filling 0 told h (rw s) (f ∙ rw (add-one, s) (and_false (assigned_below g k)))
 
   pub fill_end : n ≤ k → (all ≡ assigned_below g n) × (cells ≡ filled_to (assigned_to g) n cells₀)
@@ -76,9 +73,9 @@ module _ {g : Genes} {n : ℕ} {cells₀ cells : List ℕ} {all : Bool} {k : ℕ
 
 -- ---- a table of machines
 
-machine_of_lem : (R : ℕ) (o : Option ℕ) → 0 < R → ((m : ℕ) → o ≡ some m → m < R) → Option.get_or o 0 < R
-machine_of_lem R none r h = r
-machine_of_lem R (some m) r h = h m refl
+machine_of_lem : (R : ℕ) (o : Option ℕ) → 0 < R → ((m : ℕ) → o ≡ Some m → m < R) → unwrap_or o 0 < R
+machine_of_lem R None r h = r
+machine_of_lem R (Some m) r h = h m refl
 
 -- each activity's machine, and nothing that is none of sixteen machines
 pub record Manned (p : Problem) (g : Genes) (machines : List ℕ) : Type 0 where

@@ -1,4 +1,5 @@
 -- `indexed`: what is given so far, and what the words left give, is what the whole order gives. Assumes nothing.
+use Rattle.std.specs.Prelude.{None, Some}
 use Prim.Native.Nat.{ℕ, zero, suc, ◌+◌, ◌≤◌, ◌<◌}
 use mathlib.Core.Path.{◌≡◌, refl, sym, ap, ◌∙◌, subst}
 use mathlib.Core.Bool.{Bool, true, false, ◌&&◌}
@@ -19,7 +20,6 @@ use Rattle.plan.specs.declared.Layout.{Layout}
 use Rattle.plan.proofs.InputLaws.{length-words_from}
 use Rattle.genes.specs.Indexed.{gives, indexed_from, indexed}
 use Rattle.genes.specs.Held.{filled_to, Listed, task_if, task_named}
-use Rattle.genes.specs.declared.Naming.TheVariants.{Task, Unknown}
 use Rattle.genes.proofs.HeldLaws.{filled_at}
 use Rattle.genes.proofs.TaskLaws.{task_within}
 use Rattle.genes.proofs.IndexedLaws.{indexed_few}
@@ -44,33 +44,33 @@ pub record Word (g : Genes) (k t : ℕ) : Type 0 where
   pub left : k < length g.order
   pub is : t ≡ get_or g.order k 0
 
-pub named_unknown : (p : Problem) (x t : ℕ) → t ≡ x → p.tasks ≤ t → Unknown ≡ task_named p x
+pub named_unknown : (p : Problem) (x t : ℕ) → t ≡ x → p.tasks ≤ t → None ≡ task_named p x
 named_unknown p x t e h = rw (le-ltb x p.tasks (omega arith))
 
-pub named_task : (p : Problem) (x t : ℕ) → t ≡ x → t < p.tasks → Task t ≡ task_named p x
+pub named_task : (p : Problem) (x t : ℕ) → t ≡ x → t < p.tasks → Some t ≡ task_named p x
 named_task p x t e h = rw (lt-ltb x p.tasks (omega arith), e)
 
-task_is : (p : Problem) (x t : ℕ) → Task t ≡ task_named p x → (t ≡ x) × (x < p.tasks)
+task_is : (p : Problem) (x t : ℕ) → Some t ≡ task_named p x → (t ≡ x) × (x < p.tasks)
 task_is p x t e = by_test (ltb x p.tasks) refl e
   where
-    by_test : (b : Bool) → ltb x p.tasks ≡ b → Task t ≡ task_if b x → (t ≡ x) × (x < p.tasks)
+    by_test : (b : Bool) → ltb x p.tasks ≡ b → Some t ≡ task_if b x → (t ≡ x) × (x < p.tasks)
     by_test true l q = (cc, ltb-true x p.tasks l)
     by_test false l q = let z : ◌≡◌ {A = ℕ} 0 1 = cc in absurd (omega arith)
 
-task_unknown : (p : Problem) (x : ℕ) → Unknown ≡ task_named p x → p.tasks ≤ x
+task_unknown : (p : Problem) (x : ℕ) → None ≡ task_named p x → p.tasks ≤ x
 task_unknown p x e = by_test (ltb x p.tasks) refl e
   where
-    by_test : (b : Bool) → ltb x p.tasks ≡ b → Unknown ≡ task_if b x → p.tasks ≤ x
+    by_test : (b : Bool) → ltb x p.tasks ≡ b → None ≡ task_if b x → p.tasks ≤ x
     by_test true l q = let z : ◌≡◌ {A = ℕ} 0 1 = cc in absurd (omega arith)
     by_test false l q = ltb-false x p.tasks l
 
 module _ (ws : List ℕ) (z : Layout) (k n : ℕ) (e : n ≡ get_or ws z.at.order 0) (h : k < n) where
-  pub known_word : (t : ℕ) → Task t ≡ task_named (problem_of ws z) (cell ws z.at.order 1 k 0) → Word (genes_of ws z) k t × (t < z.tasks)
+  pub known_word : (t : ℕ) → Some t ≡ task_named (problem_of ws z) (cell ws z.at.order 1 k 0) → Word (genes_of ws z) k t × (t < z.tasks)
   known_word t q =
       let w = task_is (problem_of ws z) (cell ws z.at.order 1 k 0) t q in
       (record { left = omega (arith, order_length ws z); is = w.0 ∙ order_at ws z k (omega arith) }, omega arith)
 
-  pub unknown_word : Unknown ≡ task_named (problem_of ws z) (cell ws z.at.order 1 k 0)
+  pub unknown_word : None ≡ task_named (problem_of ws z) (cell ws z.at.order 1 k 0)
       → Word (genes_of ws z) k (cell ws z.at.order 1 k 0) × (z.tasks ≤ cell ws z.at.order 1 k 0)
   unknown_word q =
       (record { left = omega (arith, order_length ws z); is = order_at ws z k (omega arith) }, task_unknown (problem_of ws z) (cell ws z.at.order 1 k 0) q)

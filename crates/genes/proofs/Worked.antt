@@ -1,10 +1,10 @@
 -- Document 01's plan S as far as its genes go: two tasks of two activities, the first of each on machine 0, the second on machine 1. Its order as it
 -- comes, one with unknown tasks and surplus namings, and genes with something missing.
+use Rattle.std.specs.Prelude.{None, Option, Some}
 use Prim.Native.Nat.{ℕ, ◌*◌}
 use mathlib.Core.Path.{◌≡◌, refl}
 use mathlib.Core.Bool.{true, false}
 use mathlib.Core.List.{List, [], ◌∷◌}
-use mathlib.Core.Option.{Option, none, some}
 use lib.Ieee.{fin}
 use lib.IntN.{negsuc}
 use lib.ListN.{get_or, replicate}
@@ -20,7 +20,7 @@ plan_s =
       n = 4;
       machines = 2;
       category = λ t. 0;
-      deadline = λ t. none;
+      deadline = λ t. None;
       first = λ t. 2 * t;
       steps = λ t. 2;
       task_of = λ a. 0;
@@ -32,16 +32,16 @@ plan_s =
       process = λ a m. 0;
       teardown = λ a m. 0;
       transport = λ l m. 0;
-      change = λ m b c. none;
+      change = λ m b c. None;
       weight = fin false 1 (negsuc 0);
       limit = 60;
     }
 
 abbrev pub genes : (order : List ℕ) → (machines : List (Option ℕ)) → Genes
-genes order machines = record { order = order; assigned = λ a. get_or machines a none }
+genes order machines = record { order = order; assigned = λ a. get_or machines a None }
 
 abbrev pub assignment : List (Option ℕ)
-assignment = some 0 ∷ some 1 ∷ some 0 ∷ some 1 ∷ []
+assignment = Some 0 ∷ Some 1 ∷ Some 0 ∷ Some 1 ∷ []
 
 pub as_it_comes : indexed plan_s (genes (0 ∷ 0 ∷ 1 ∷ 1 ∷ []) assignment) ≡ 0 ∷ 1 ∷ 2 ∷ 3 ∷ []
 unfolding indexed_from count_of hit
@@ -64,10 +64,10 @@ pub short_order : misses plan_s (genes (0 ∷ 0 ∷ 0 ∷ 1 ∷ []) assignment) 
 unfolding indexed_from count_of hit assigned_below
 short_order = refl
 
-pub no_machine : misses plan_s (genes (0 ∷ 0 ∷ 1 ∷ 1 ∷ []) (some 0 ∷ some 1 ∷ none ∷ some 1 ∷ [])) ≡ true
+pub no_machine : misses plan_s (genes (0 ∷ 0 ∷ 1 ∷ 1 ∷ []) (Some 0 ∷ Some 1 ∷ None ∷ Some 1 ∷ [])) ≡ true
 unfolding indexed_from count_of hit assigned_below
 no_machine = refl
 
-pub short_assignment : misses plan_s (genes (0 ∷ 0 ∷ 1 ∷ 1 ∷ []) (some 0 ∷ some 1 ∷ some 0 ∷ [])) ≡ true
+pub short_assignment : misses plan_s (genes (0 ∷ 0 ∷ 1 ∷ 1 ∷ []) (Some 0 ∷ Some 1 ∷ Some 0 ∷ [])) ≡ true
 unfolding indexed_from count_of hit assigned_below
 short_assignment = refl

@@ -1,15 +1,13 @@
 -- What is looked up answers, and how lent cells hold what the genes give.
-use Rattle.std.specs.Prelude.{ℕ, zero, suc, ◌≤◌, ◌≡◌, Bool, true, false, List, ltb, length, get_or, set, take}
+use Rattle.std.specs.Prelude.{ℕ, zero, suc, ◌≤◌, ◌≡◌, Bool, true, false, List, ltb, length, get_or, set, take, Some, None, Option}
 use Rattle.plan.specs.Problem.{Problem}
-use Rattle.genes.specs.declared.Naming.{Naming}
-use Rattle.genes.specs.declared.Naming.TheVariants.{Task, Unknown}
 
 -- the task that a word of the order names
-abbrev pub task_if : Bool → ℕ → Naming
-task_if true t = Task t
-task_if false t = Unknown
+abbrev pub task_if : Bool → ℕ → Option ℕ
+task_if true t = Some t
+task_if false t = None
 
-abbrev pub task_named : Problem → ℕ → Naming
+abbrev pub task_named : Problem → ℕ → Option ℕ
 task_named p t = task_if (ltb t p.tasks) t
 
 -- f at each of the first k cells, the others as they were

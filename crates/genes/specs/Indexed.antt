@@ -1,7 +1,6 @@
 -- Document 01, "Timing and fitness": the order's k-th naming of a task is its k-th activity; unknown tasks and surplus namings are dropped. The
 -- lines are these activities in order, on their assigned machines. Outcome 11: an activity has no machine, or the Order gives fewer than n.
-use Rattle.std.specs.Prelude.{ℕ, zero, suc, ◌+◌, Bool, true, false, not, ◌&&◌, ◌||◌, List, [], ◌∷◌, ltb, length}
-use Rattle.std.proofs.Math.Option.{Option, none, some, get_or}
+use Rattle.std.specs.Prelude.{ℕ, zero, suc, ◌+◌, Bool, true, false, not, ◌&&◌, ◌||◌, List, [], ◌∷◌, ltb, length, unwrap_or, Some, None, Option}
 use Rattle.graph.specs.Counting.{count_of}
 use Rattle.graph.specs.Filing.{cons_if}
 use Rattle.plan.specs.Problem.{Problem, Genes}
@@ -25,11 +24,11 @@ indexed p g = indexed_from p [] g.order
 
 -- an activity's machine, 0 where it has none
 abbrev pub assigned_to : Genes → ℕ → ℕ
-assigned_to g a = get_or (g.assigned a) 0
+assigned_to g a = unwrap_or (g.assigned a) 0
 
 abbrev pub is_assigned : Option ℕ → Bool
-is_assigned none = false
-is_assigned (some m) = true
+is_assigned None = false
+is_assigned (Some m) = true
 
 -- each of the first k activities has a machine
 unfoldable pub assigned_below : Genes → ℕ → Bool

@@ -10,14 +10,7 @@ ghost use Rattle.genes.specs.Indexed.{indexed, assigned_to, all_assigned};
 ghost use Rattle.genes.specs.Held.{filled_to, Listed, task_named};
 ghost use Rattle.genes.specs.Lot.{Lines};
 
-use plan::{Layout, Machine};
-
-// A word of the Order: a task, or a number that no task has.
-#[derive(Clone, Copy)]
-enum Naming {
-    Task(usize),
-    Unknown,
-}
+use plan::Layout;
 
 // The first activity of each task.
 fn fill_firsts(s: &[u8], z: Layout, firsts: &mut [usize])
@@ -34,15 +27,15 @@ fn fill_firsts(s: &[u8], z: Layout, firsts: &mut [usize])
 }
 
 // The task that the k-th word of the Order names.
-fn task_named(s: &[u8], z: Layout, k: usize) -> Naming
+fn task_named(s: &[u8], z: Layout, k: usize) -> Option<usize>
     requires { Placed z × (k < 2 ^ 32) }
     ensures { result ≡ task_named (problem_of (words s.now) z) (cell (words s.now) z.at.order 1 k 0) }
 {
     let t = plan::naming(s, z, k) as usize;
     if z.tasks <= t {
-        return Naming::Unknown;
+        return None;
     }
-    Naming::Task(t)
+    Some(t)
 }
 
 // The activities that the Order gives, and how many they are. A task's k-th naming is its k-th
@@ -61,7 +54,7 @@ pub fn indexed(s: &[u8], z: Layout, activities: &mut [usize]) -> usize
     while k < namings {
         let at = k;
         k += 1;
-        let Naming::Task(t) = task_named(s, z, at) else {
+        let Some(t) = task_named(s, z, at) else {
             continue;
         };
         let nth = named[t];
@@ -86,7 +79,7 @@ pub fn fill_machines(s: &[u8], z: Layout, machines: &mut [usize]) -> bool
     while a < z.activities {
         let i = a;
         a += 1;
-        let Machine::On(m) = plan::assigned(s, z, i) else {
+        let Some(m) = plan::assigned(s, z, i) else {
             machines[i] = 0;
             all = false;
             continue;

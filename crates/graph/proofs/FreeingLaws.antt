@@ -1,4 +1,5 @@
 -- Laws of freeing: one list after another, one link, and the loop of `release_list`. Assumes nothing.
+use Rattle.std.specs.Prelude.{None, Option, Some, ℕ}
 use mathlib.Core.Path.{◌≡◌, refl, sym, ap, ◌∙◌}
 use mathlib.Core.Bool.{Bool, true, false}
 use mathlib.Core.List.{List, [], ◌∷◌, ◌++◌}
@@ -12,8 +13,6 @@ use borrow.Author.Tests.{lt-ltb, le-ltb}
 use Rattle.graph.specs.Order.{State, free, free_all, push_if}
 use Rattle.graph.specs.Links.{linked, link_of, part_of, succs_of}
 use Rattle.graph.specs.Run.{state_of, Safe}
-use Rattle.graph.specs.declared.Link.{Link}
-use Rattle.graph.specs.declared.Link.TheVariants.{To, Nothing}
 use Rattle.graph.proofs.StackLaws.{length-stack_of}
 
 pub free_all-append : (xs ys : List ℕ) (s : State) → free_all (xs ++ ys) s ≡ free_all ys (free_all xs s)
@@ -75,22 +74,22 @@ module _ (line task at waiting : List ℕ) (a : ℕ) (s : State) (room : ℕ) (h
 
 -- ---- a link
 
-pub link_to : (links : List ℕ) (a : ℕ) → get_or links a 0 < length links → To (get_or links a 0) ≡ link_of links a
+pub link_to : (links : List ℕ) (a : ℕ) → get_or links a 0 < length links → Some (get_or links a 0) ≡ link_of links a
 link_to links a h = rw (lt-ltb _ _ h)
 
-pub link_none : (links : List ℕ) (a : ℕ) → length links ≤ get_or links a 0 → Nothing ≡ link_of links a
+pub link_none : (links : List ℕ) (a : ℕ) → length links ≤ get_or links a 0 → None ≡ link_of links a
 link_none links a h = rw (le-ltb _ _ h)
 
-pub meet_none : {l : Link} → l ≡ Nothing → (s : State) → s ≡ free_all (linked l) s
+pub meet_none : {l : Option ℕ} → l ≡ None → (s : State) → s ≡ free_all (linked l) s
 unfolding free_all
 meet_none e s = rw e
 
-pub meet_asks : {l : Link} {b : ℕ} → l ≡ To b → (s : State) (room : ℕ) → Safe (linked l) s room
+pub meet_asks : {l : Option ℕ} {b : ℕ} → l ≡ Some b → (s : State) (room : ℕ) → Safe (linked l) s room
     → (b < length s.counts) × (0 < get_or s.counts b 0) × (length (free b s).stack ≤ room)
 unfolding Safe
 meet_asks e s room h = let q = rw e at h in (q.0, q.1, q.2)
 
-pub meet_one : {l : Link} {b : ℕ} → l ≡ To b → (s : State) → free b s ≡ free_all (linked l) s
+pub meet_one : {l : Option ℕ} {b : ℕ} → l ≡ Some b → (s : State) → free b s ≡ free_all (linked l) s
 unfolding free_all
 meet_one e s = rw e
 

@@ -1,8 +1,8 @@
 -- Demand 3 of a shop: the order is short exactly when the arcs lead from some activity back to itself; otherwise the starts meet every
 -- bound and are the least whole numbers that do. Assumes nothing.
+use Rattle.std.specs.Prelude.{None, Option, Some, ℕ}
 use mathlib.Core.Path.{◌≡◌, refl, sym, ap}
 use mathlib.Core.List.{List, [], ◌∷◌, ◌++◌}
-use mathlib.Core.Option.{Option}
 use mathlib.Core.Logic.{◌↔◌}
 use Prim.Native.Nat.{ℕ, ◌+◌, ◌≤◌, ◌<◌, max}
 use native.Mathlib.Nat.{le_of_eq, le_trans}
@@ -14,18 +14,16 @@ use Rattle.graph.specs.Starts.{Monotone, held_rule}
 use Rattle.graph.specs.Exact.{Counted, graph_order, Exact}
 use Rattle.graph.specs.Links.{linked}
 use Rattle.graph.specs.Shop.{greatest, Shop, outs, ins, shop_rule, Arc, line, task, name, Bounds, shop_start, ShopExact}
-use Rattle.graph.specs.declared.Link.{Link}
-use Rattle.graph.specs.declared.Link.TheVariants.{To, Nothing}
 use Rattle.graph.proofs.CountingLaws.{count_of-append, hit-eq, hit-ne, either, below_append}
 use Rattle.graph.proofs.CircleLaws.{circle_map}
 use Rattle.graph.proofs.Theorem.{short_is_circle, circle_is_short, order_and_starts_exact, held_mono}
 
-linked_is : (p : ℕ) (o : Link) → 0 < count_of p (linked o) → o ≡ To p
+linked_is : (p : ℕ) (o : Option ℕ) → 0 < count_of p (linked o) → o ≡ Some p
 unfolding count_of
-linked_is p Nothing h = absurd (omega arith)
-linked_is p (To q) h = either q p (λ e. ap To e) (λ ne. absurd (omega (arith, hit-ne q p ne)))
+linked_is p None h = absurd (omega arith)
+linked_is p (Some q) h = either q p (λ e. ap Some e) (λ ne. absurd (omega (arith, hit-ne q p ne)))
 
-linked-has : (p : ℕ) (o : Link) → o ≡ To p → 0 < count_of p (linked o)
+linked-has : (p : ℕ) (o : Option ℕ) → o ≡ Some p → 0 < count_of p (linked o)
 unfolding count_of
 linked-has p o e = rw e (omega (arith, hit-eq p p refl))
 
@@ -137,14 +135,14 @@ module _ (s : Shop) where
           ends : ℕ → ℕ
           ends p = shop_start s counts old p + s.span p
 
-          in_task : (p a : ℕ) → s.task_pred a ≡ To p → ends p + s.transport p a ≤ shop_rule s a ends
+          in_task : (p a : ℕ) → s.task_pred a ≡ Some p → ends p + s.transport p a ≤ shop_rule s a ends
           in_task p a e =
               le_trans (greatest-each (λ q. ends q + s.transport q a) (linked (s.task_pred a)) _ p (linked-has p (s.task_pred a) e)) (greatest-first ends (s.named a) _)
 
           over : (a m : ℕ) → m ≤ greatest ends (s.named a) (greatest (λ q. ends q + s.transport q a) (linked (s.task_pred a)) m)
           over a m = le_trans (greatest-first (λ q. ends q + s.transport q a) (linked (s.task_pred a)) m) (greatest-first ends (s.named a) _)
 
-          in_line : (p a : ℕ) → s.line_pred a ≡ To p → ends p ≤ shop_rule s a ends
+          in_line : (p a : ℕ) → s.line_pred a ≡ Some p → ends p ≤ shop_rule s a ends
           in_line p a e = le_trans (greatest-each ends (linked (s.line_pred a)) (s.earliest a) p (linked-has p (s.line_pred a) e)) (over a _)
 
           in_release : (a : ℕ) → s.earliest a ≤ shop_rule s a ends

@@ -1,7 +1,7 @@
 -- Demand 3 over an abstract graph: what the order and the starts are to whoever has arcs and a rule, and no word of stacks. Assumes nothing.
+use Rattle.std.specs.Prelude.{None, Option, Some}
 use mathlib.Core.Path.{◌≡◌, ◌∙◌}
 use mathlib.Core.List.{List, []}
-use mathlib.Core.Option.{Option, none, some}
 use Prim.Native.Nat.{ℕ, ◌≤◌, ◌<◌}
 use native.Mathlib.Omega.{arith}
 use lib.ListN.{length}
@@ -89,6 +89,6 @@ module _ (g : Graph) (counts : List ℕ) (counted : Counted g counts) where
 pub held_mono : (g : Graph) (held : ℕ → Option ℕ) (rule : Rule) → Monotone g rule → Monotone g (held_rule held rule)
 held_mono g held rule m a f h l k = go (held a)
   where
-    go : (o : Option ℕ) → elim o as (λ x. ℕ) [ none ↦ rule a f | some s ↦ s ] ≤ elim o as (λ x. ℕ) [ none ↦ rule a h | some s ↦ s ]
-    go none = m a f h l k
-    go (some s) = omega arith
+    go : (o : Option ℕ) → elim o as (λ x. ℕ) [ None ↦ rule a f | Some s ↦ s ] ≤ elim o as (λ x. ℕ) [ None ↦ rule a h | Some s ↦ s ]
+    go None = m a f h l k
+    go (Some s) = omega arith

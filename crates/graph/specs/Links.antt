@@ -1,22 +1,20 @@
 -- Document 01: an activity frees its line successor, its task successor, then those naming it, by rising number, once per naming. How
 -- arrays hold that: a link for each activity and line or task, and for each activity a part of one list, between two offsets.
-use Rattle.std.specs.Prelude.{◌≡◌, Bool, true, false, List, [], ◌∷◌, ◌++◌, ℕ, ◌+◌, ◌-◌, ◌≤◌, ◌<◌, length, get_or, take, drop, ltb}
+use Rattle.std.specs.Prelude.{◌≡◌, Bool, true, false, List, [], ◌∷◌, ◌++◌, ℕ, ◌+◌, ◌-◌, ◌≤◌, ◌<◌, length, get_or, take, drop, ltb, Some, None, Option}
 use Rattle.graph.specs.Counting.{Below}
 use Rattle.graph.specs.Arcs.{arcs_into}
-use Rattle.graph.specs.declared.Link.{Link}
-use Rattle.graph.specs.declared.Link.TheVariants.{To, Nothing}
 
 -- one activity or none, as a list
-abbrev pub linked : Link → List ℕ
-linked (To b) = b ∷ []
-linked Nothing = []
+abbrev pub linked : Option ℕ → List ℕ
+linked (Some b) = b ∷ []
+linked None = []
 
-abbrev pub to_if : Bool → ℕ → Link
-to_if true b = To b
-to_if false b = Nothing
+abbrev pub to_if : Bool → ℕ → Option ℕ
+to_if true b = Some b
+to_if false b = None
 
 -- the activity that a link names; a number that is no activity stands for none
-abbrev pub link_of : List ℕ → ℕ → Link
+abbrev pub link_of : List ℕ → ℕ → Option ℕ
 link_of links a = to_if (ltb (get_or links a 0) (length links)) (get_or links a 0)
 
 -- the part of a list from one place up to another

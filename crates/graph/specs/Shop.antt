@@ -1,13 +1,11 @@
 -- Document 01, "Timing and fitness": start is the greatest of 0, the line predecessor's end, the task predecessor's end plus transport, the
 -- release, and every named predecessor's end. Over any shop, whatever lines and inputs it is made of; an opening time (L2) raises `earliest`.
-use Rattle.std.specs.Prelude.{◌≡◌, List, [], ◌∷◌, ◌++◌, ◌↔◌, ℕ, ◌+◌, ◌≤◌, ◌<◌, max, length, get_or}
+use Rattle.std.specs.Prelude.{◌≡◌, List, [], ◌∷◌, ◌++◌, ◌↔◌, ℕ, ◌+◌, ◌≤◌, ◌<◌, max, length, get_or, Some, Option}
 use Rattle.graph.specs.Counting.{count_of, Below}
 use Rattle.graph.specs.Arcs.{Circle}
 use Rattle.graph.specs.Order.{order_of}
 use Rattle.graph.specs.Starts.{Rule, timed}
 use Rattle.graph.specs.Links.{linked}
-use Rattle.graph.specs.declared.Link.{Link}
-use Rattle.graph.specs.declared.Link.TheVariants.{To}
 
 -- the greatest of m and of f at each of ps
 unfoldable pub greatest : (ℕ → ℕ) → List ℕ → ℕ → ℕ
@@ -18,10 +16,10 @@ greatest f (p ∷ ps) m = greatest f ps (max m (f p))
 -- when none may start, and how long the way from one to another is. The duals say that before and after are the same arcs
 pub record Shop : Type 0 where
   pub n : ℕ
-  pub line_pred : ℕ → Link
-  pub line_succ : ℕ → Link
-  pub task_pred : ℕ → Link
-  pub task_succ : ℕ → Link
+  pub line_pred : ℕ → Option ℕ
+  pub line_succ : ℕ → Option ℕ
+  pub task_pred : ℕ → Option ℕ
+  pub task_succ : ℕ → Option ℕ
   pub named : ℕ → List ℕ
   pub waiting : ℕ → List ℕ
   pub span : ℕ → ℕ
@@ -47,15 +45,15 @@ shop_rule s a f =
 
 -- an arc: p is a's line, task or named predecessor
 pub data Arc (s : Shop) (p a : ℕ) : Type 0 where
-  line : a < s.n → s.line_pred a ≡ To p → Arc s p a
-  task : a < s.n → s.task_pred a ≡ To p → Arc s p a
+  line : a < s.n → s.line_pred a ≡ Some p → Arc s p a
+  task : a < s.n → s.task_pred a ≡ Some p → Arc s p a
   name : a < s.n → 0 < count_of p (s.named a) → Arc s p a
 
 -- starts S that meet every bound
 pub record Bounds (s : Shop) (S : ℕ → ℕ) : Type 0 where
   pub released : (a : ℕ) → a < s.n → s.earliest a ≤ S a
-  pub lined : (p a : ℕ) → a < s.n → s.line_pred a ≡ To p → S p + s.span p ≤ S a
-  pub tasked : (p a : ℕ) → a < s.n → s.task_pred a ≡ To p → S p + s.span p + s.transport p a ≤ S a
+  pub lined : (p a : ℕ) → a < s.n → s.line_pred a ≡ Some p → S p + s.span p ≤ S a
+  pub tasked : (p a : ℕ) → a < s.n → s.task_pred a ≡ Some p → S p + s.span p + s.transport p a ≤ S a
   pub followed : (p a : ℕ) → a < s.n → 0 < count_of p (s.named a) → S p + s.span p ≤ S a
 
 -- the start that timing gives an activity, whatever the list of starts held before

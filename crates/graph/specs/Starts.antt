@@ -1,7 +1,6 @@
 -- Document 01, "Timing and fitness": in the timing order each activity gets the earliest start that its bounds allow, by the ends of those
 -- it waits for. The bounds are a rule, so that openings (L2) and held rows (L12) are other rules.
-use Rattle.std.specs.Prelude.{List, [], ◌∷◌, ℕ, ◌+◌, ◌≤◌, ◌<◌, get_or, set}
-use Rattle.std.proofs.Math.Option.{Option, none, some}
+use Rattle.std.specs.Prelude.{List, [], ◌∷◌, ℕ, ◌+◌, ◌≤◌, ◌<◌, get_or, set, Some, None, Option}
 use Rattle.graph.specs.Arcs.{Graph, Waits}
 
 -- an activity and the ends of all give its earliest start
@@ -31,4 +30,4 @@ Meets n rule span S = (a : ℕ) → a < n → rule a (λ p. S p + span p) ≤ S 
 
 -- a held row keeps its start, whatever it waits for: a rule that looks at nothing
 abbrev pub held_rule : (ℕ → Option ℕ) → Rule → Rule
-held_rule held rule a f = elim (held a) [ none ↦ rule a f | some s ↦ s ]
+held_rule held rule a f = elim (held a) [ None ↦ rule a f | Some s ↦ s ]

@@ -12,24 +12,17 @@ ghost use Rattle.graph.specs.Run.{stack_of, state_of, Safe, SafeRun};
 pub use counting::{clear, count_arcs, tally_by, tally_links};
 pub use filing::file_naming;
 
-// One activity, or none.
-#[derive(Clone, Copy)]
-pub enum Link {
-    To(usize),
-    Nothing,
-}
-
 // The activity that a link names. There are as many links as activities, so a number that is not
 // below their count is no activity and stands for none.
-pub fn link_of(links: &[usize], a: usize) -> Link
+pub fn link_of(links: &[usize], a: usize) -> Option<usize>
     requires { a < length links.now }
     ensures { result ≡ link_of links.now a }
 {
     let b = links[a];
     if b < links.len() {
-        return Link::To(b);
+        return Some(b);
     }
-    Link::Nothing
+    None
 }
 
 // One arc into b is met: it waits for one less, and is stacked where that leaves none.
@@ -51,7 +44,7 @@ fn meet(a: usize, links: &[usize], counts: &mut [usize], stack: &mut [usize], to
     requires { (a < length links.now) × Safe (linked (link_of links.now a)) (state_of counts.old stack.old top) (length stack.old) }
     ensures { state_of counts.new stack.new result ≡ free_all (linked (link_of links.now a)) (state_of counts.old stack.old top) }
 {
-    let Link::To(b) = link_of(links, a) else {
+    let Some(b) = link_of(links, a) else {
         return top;
     };
     lower(b, counts, stack, top)

@@ -1,10 +1,9 @@
 -- The lines that genes give: there are sixteen, and each activity is on its machine. Assumes nothing.
+use Rattle.std.specs.Prelude.{None, Option, Some, unwrap_or}
 use Prim.Native.Nat.{ℕ, zero, suc, ◌≤◌, ◌<◌}
 use mathlib.Core.Path.{◌≡◌, refl, sym, ap, ◌∙◌, subst}
 use mathlib.Core.Bool.{Bool, true, false, false≢true}
 use mathlib.Core.List.{List, [], ◌∷◌}
-use mathlib.Core.Option
-use mathlib.Core.Option.{Option, none, some}
 use native.Mathlib.Omega.{arith}
 use borrow.Author.Tests.{eqb-true}
 use lib.Dec.{eqb}
@@ -55,9 +54,9 @@ dealt_machine {n} {R} on activities w few a h =
     ap on (sym (ap (λ (l : List ℕ). get_or l i 0) (sym line) ∙ s.1)) ∙ on_machine_lem on m activities i (omega (arith, s.0, ap length line))
 
 -- .. that it has
-pub assigned_some : (o : Option ℕ) → is_assigned o ≡ true → o ≡ some (Option.get_or o 0)
-assigned_some none e = absurd (false≢true e)
-assigned_some (some m) e = refl
+pub assigned_some : (o : Option ℕ) → is_assigned o ≡ true → o ≡ Some (unwrap_or o 0)
+assigned_some None e = absurd (false≢true e)
+assigned_some (Some m) e = refl
 
 pub assigned_each : (g : Genes) (k a : ℕ) → assigned_below g k ≡ true → a < k → is_assigned (g.assigned a) ≡ true
 unfolding assigned_below

@@ -1,4 +1,5 @@
 -- Who stands next to whom on a line, and on a line that one was taken out of or put into. Assumes nothing.
+use Rattle.std.specs.Prelude.{Some}
 use Prim.Native.Nat.{ℕ, zero, suc, ◌+◌, ◌≤◌, ◌<◌}
 use mathlib.Core.Path.{◌≡◌, refl}
 use mathlib.Core.Bool.{Bool, true, false, cond}
@@ -8,7 +9,6 @@ use borrow.Author.Tests.{eq-eqb, ne_eqb}
 use lib.ListN.{length, get_or}
 use Rattle.graph.specs.Counting.{count_of, hit}
 use Rattle.graph.specs.Filing.{naming}
-use Rattle.graph.specs.declared.Link.TheVariants.{To}
 use Rattle.graph.proofs.CountingLaws.{either, hit-eq, hit-ne, count_of-append}
 use Rattle.lines.specs.Lines.{Lines, rest, befores, first_of, line_pred}
 use Rattle.moves.specs.Moves.{line_of, remove_at, insert_at}
@@ -46,13 +46,13 @@ befores_line (l ∷ lines) b a h =
     (λ z. let d = befores_line lines b a (omega (arith, h, count_of-append b (naming a l (rest l)) (befores lines a), z)) in (suc d.0, d.1))
     (λ nz. (0, omega (arith, nz)))
 
-first-counts : (l : List ℕ) (b : ℕ) → first_of l ≡ To b → 0 < count_of b l
+first-counts : (l : List ℕ) (b : ℕ) → first_of l ≡ Some b → 0 < count_of b l
 unfolding count_of
 first-counts [] b e = let z : ◌≡◌ {A = ℕ} 0 1 = cc in absurd (omega arith)
 first-counts (x ∷ l) b e = let q : x ≡ b = cc in omega (arith, hit-eq x b q)
 
 -- a line predecessor stands before on some line
-pub pred_next : (lines : Lines) (b a : ℕ) → line_pred lines a ≡ To b → (m : ℕ) × Next (line_of lines m) b a
+pub pred_next : (lines : Lines) (b a : ℕ) → line_pred lines a ≡ Some b → (m : ℕ) × Next (line_of lines m) b a
 pred_next lines b a e =
     let d = befores_line lines b a (first-counts (befores lines a) b e) in
     (d.0, names_next (line_of lines d.0) b a d.1)

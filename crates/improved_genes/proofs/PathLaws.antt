@@ -1,5 +1,6 @@
 -- Of lines that do not contradict: the critical path names activities, none twice, and every move that a step tries fits the lines, enters a
 -- machine that there is, and puts an activity only on one of its candidates. Nothing here asks for tables.
+use Rattle.std.specs.Prelude.{None, Option, Some, ℕ}
 use Prim.Native.Nat.{ℕ, zero, suc, ◌+◌, ◌≤◌, ◌<◌}
 use mathlib.Core.Path.{◌≡◌, refl, sym, ap, ◌∙◌, subst}
 use mathlib.Core.Bool.{false}
@@ -7,8 +8,6 @@ use mathlib.Core.List.{List, [], ◌∷◌}
 use native.Mathlib.Omega.{arith}
 use lib.ListN.{length, get_or}
 use Rattle.graph.specs.Counting.{Below, count_of, hit}
-use Rattle.graph.specs.declared.Link.{Link}
-use Rattle.graph.specs.declared.Link.TheVariants.{To, Nothing}
 use Rattle.graph.proofs.CountingLaws.{either, hit-eq, hit-ne, below_of}
 use Rattle.graph.proofs.ShopTheorem.{graph}
 use Rattle.graph.proofs.Theorem.{order_below}
@@ -45,16 +44,16 @@ use Rattle.search.specs.Step.{placing_of, others_by, moves_from}
 -- ---- the path
 
 -- Each step back falls to a lower rank than all that the path has so far.
-walked : (n : ℕ) (back : ℕ → Link) (rank : ℕ → ℕ) → ((a q : ℕ) → a < n → back a ≡ To q → (q < n) × (rank q < rank a)) → (most : ℕ) (link : Link) (path : List ℕ)
-    → ((q : ℕ) → link ≡ To q → (q < n) × ((b : ℕ) → 0 < count_of b path → rank q < rank b)) → Below n path → ((b : ℕ) → count_of b path ≤ 1)
+walked : (n : ℕ) (back : ℕ → Option ℕ) (rank : ℕ → ℕ) → ((a q : ℕ) → a < n → back a ≡ Some q → (q < n) × (rank q < rank a)) → (most : ℕ) (link : Option ℕ) (path : List ℕ)
+    → ((q : ℕ) → link ≡ Some q → (q < n) × ((b : ℕ) → 0 < count_of b path → rank q < rank b)) → Below n path → ((b : ℕ) → count_of b path ≤ 1)
     → Below n (walk_back back most link path) × ((b : ℕ) → count_of b (walk_back back most link path) ≤ 1)
 unfolding walk_back count_of Below
 walked n back rank falls zero link path k known o = (known, o)
-walked n back rank falls (suc most) Nothing path k known o = (known, o)
-walked n back rank falls (suc most) (To a) path k known o =
+walked n back rank falls (suc most) None path k known o = (known, o)
+walked n back rank falls (suc most) (Some a) path k known o =
     walked n back rank falls most (back a) (a ∷ path) (λ q e. ((falls a q (k a refl).0 e).0, λ b c. lower q e b c)) ((k a refl).0, known) (λ b. fresh b)
   where
-    lower : (q : ℕ) → back a ≡ To q → (b : ℕ) → 0 < hit a b + count_of b path → rank q < rank b
+    lower : (q : ℕ) → back a ≡ Some q → (b : ℕ) → 0 < hit a b + count_of b path → rank q < rank b
     lower q e b c =
         let f = (falls a q (k a refl).0 e).1 in
         either a b

@@ -1,5 +1,6 @@
 -- A reassignment's lines never contradict: it joins its new line behind nobody who starts after its end, and before nobody who ends before its
 -- start, so that by time, and beside each other by the old order, nobody comes to wait for himself.
+use Rattle.std.specs.Prelude.{None, Option, Some, ℕ}
 use Prim.Native.Nat.{ℕ, zero, suc, ◌+◌, ◌-◌, ◌≤◌, ◌<◌}
 use mathlib.Core.Path.{◌≡◌, refl, sym, ap, ◌∙◌, subst}
 use mathlib.Core.Bool.{Bool, true, false, cond}
@@ -11,8 +12,6 @@ use lib.ListN.{length, get_or}
 use Rattle.graph.specs.Counting.{count_of}
 use Rattle.graph.specs.Arcs.{Graph, Waits}
 use Rattle.graph.specs.Links.{linked}
-use Rattle.graph.specs.declared.Link.{Link}
-use Rattle.graph.specs.declared.Link.TheVariants.{To, Nothing}
 use Rattle.graph.proofs.CountingLaws.{either, hit-eq, hit-ne, count_of-append}
 use Rattle.graph.proofs.ShopTheorem.{graph}
 use Rattle.graph.proofs.Theorem.{at_most_n, order_in_turn, all_named}
@@ -47,14 +46,14 @@ place_most (x ∷ l) a = by (eqb x a) (place_most l a)
     by true h = omega arith
     by false h = omega (arith, h)
 
-link_counts : (q : ℕ) (l : Link) → l ≡ To q → 0 < count_of q (linked l)
+link_counts : (q : ℕ) (l : Option ℕ) → l ≡ Some q → 0 < count_of q (linked l)
 unfolding count_of
 link_counts q l e = rw e (omega (arith, hit-eq q q refl))
 
-link_is : (q : ℕ) (l : Link) → 0 < count_of q (linked l) → l ≡ To q
+link_is : (q : ℕ) (l : Option ℕ) → 0 < count_of q (linked l) → l ≡ Some q
 unfolding count_of
-link_is q Nothing h = absurd (omega arith)
-link_is q (To b) h = either b q (λ e. ap To e) (λ ne. absurd (omega (arith, h, hit-ne b q ne)))
+link_is q None h = absurd (omega arith)
+link_is q (Some b) h = either b q (λ e. ap Some e) (λ ne. absurd (omega (arith, h, hit-ne b q ne)))
 
 not_true_false : (t : Bool) → (t ≡ true → ⊥) → t ≡ false
 not_true_false true h = absurd (h refl)

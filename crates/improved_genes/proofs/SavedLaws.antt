@@ -1,10 +1,9 @@
 -- The genes that are saved from sound lines: they are whole, and they give these lines back.
+use Rattle.std.specs.Prelude.{None, Option, Some, unwrap_or}
 use Prim.Native.Nat.{ℕ, zero, suc, ◌+◌, ◌<◌}
 use mathlib.Core.Path.{◌≡◌, refl, sym, ap, ◌∙◌, subst}
 use mathlib.Core.Bool.{Bool, true, false, cond}
 use mathlib.Core.List.{List, [], ◌++◌}
-use mathlib.Core.Option
-use mathlib.Core.Option.{Option, none, some}
 use native.Mathlib.Omega.{arith}
 use borrow.Author.Tests.{lt-ltb, ltb-true, ltb-false, eq-eqb}
 use lib.Dec.{ltb}
@@ -42,7 +41,7 @@ unfolding assigned_below
 all_have g zero h = refl
 all_have g (suc k) h = rw (all_have g k (λ a l. h a (omega (arith, l))), h k (omega arith))
 
-some_of : (t : Bool) (x m : ℕ) → ◌≡◌ {A = Option ℕ} (cond t (some x) none) (some m) → (t ≡ true) × (x ≡ m)
+some_of : (t : Bool) (x m : ℕ) → ◌≡◌ {A = Option ℕ} (cond t (Some x) None) (Some m) → (t ≡ true) × (x ≡ m)
 some_of true x m e = (refl, cc)
 some_of false x m e = let z : ◌≡◌ {A = ℕ} 0 1 = cc in absurd (omega arith)
 
@@ -123,9 +122,9 @@ module _ (p : Problem) (g : Genes) (ok : Accepted p g) {lines : Lines} (s : Soun
 
   -- ---- they give the lines back
 
-  written_has : (a : ℕ) → a < p.n → written.assigned a ≡ some (machine_of lines a)
+  written_has : (a : ℕ) → a < p.n → written.assigned a ≡ Some (machine_of lines a)
   written_has a h =
-      ap (λ (t : Bool). cond t (some (get_or machines a 0)) none) (lt-ltb a (length machines) (omega (arith, h, machines_many))) ∙ ap some (each_is (machine_of lines) p.n a h)
+      ap (λ (t : Bool). cond t (Some (get_or machines a 0)) None) (lt-ltb a (length machines) (omega (arith, h, machines_many))) ∙ ap Some (each_is (machine_of lines) p.n a h)
 
   parts : (q a : ℕ) → count_of q (linked (line_pred lines a) ++ (linked (task_pred p a) ++ p.predecessors a)) ≡ count_of q (linked (line_pred lines a)) + (count_of q (linked (task_pred p a)) + count_of q (p.predecessors a))
   parts q a = omega (arith, count_of-append q (linked (line_pred lines a)) (linked (task_pred p a) ++ p.predecessors a), count_of-append q (linked (task_pred p a)) (p.predecessors a))
@@ -152,7 +151,7 @@ module _ (p : Problem) (g : Genes) (ok : Accepted p g) {lines : Lines} (s : Soun
   pub lines_again : lines_of_genes p written ≡ lines
   lines_again =
       ap (lines_of (assigned_to written)) order_again
-      ∙ lines_same p.n (assigned_to written) (machine_of lines) (λ a h. ap (λ (o : Option ℕ). Option.get_or o 0) (written_has a h)) order (order_known p g ok lines s.sixteen s.well)
+      ∙ lines_same p.n (assigned_to written) (machine_of lines) (λ a h. ap (λ (o : Option ℕ). unwrap_or o 0) (written_has a h)) order (order_known p g ok lines s.sixteen s.well)
       ∙ lines-back s.well s.sixteen (Waits net) line_waits order turns named
 
   pub saved_complete : misses p written ≡ false

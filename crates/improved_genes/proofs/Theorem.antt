@@ -1,11 +1,11 @@
 -- What Improve answers is never above the fitness that it began with, and the genes that it writes are whole and have the fitness that it answers.
 -- No reassignment of any step contradicts.
+use Rattle.std.specs.Prelude.{Some}
 use Prim.Native.Nat.{ℕ}
 use mathlib.Core.Path.{◌≡◌, refl, sym, ap, ◌∙◌, subst}
 use mathlib.Core.Bool.{Bool, true, false}
 use mathlib.Core.List.{List}
 use mathlib.Core.Logic.{inr}
-use mathlib.Core.Option.{some}
 use lib.Dec.{eqb}
 use lib.Ieee.{Float}
 use Rattle.plan.specs.Problem.{Problem, Genes}
@@ -36,7 +36,7 @@ module _ (p : Problem) (g : Genes) (ok : Accepted p g) where
         able = λ a h.
             inr
             (assigned_some (g.assigned a) (assigned_each g p.n a (none_missed ok whole).0 h)
-            ∙ ap some (dealt_machine (assigned_to g) (indexed p g) w ok.machines.1 a h));
+            ∙ ap Some (dealt_machine (assigned_to g) (indexed p g) w ok.machines.1 a h));
       }
 
   -- ---- what is saved

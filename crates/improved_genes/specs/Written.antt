@@ -1,6 +1,5 @@
 -- Document 01, outcomes 13 and 14: what Improve's answer says of the genes that it was given, and of those that it writes.
-use Rattle.std.specs.Prelude.{ℕ, ◌<◌, ◌≡◌, true, false, List, ◌⊎◌, Float, length, get_or}
-use Rattle.std.proofs.Math.Option.{some}
+use Rattle.std.specs.Prelude.{ℕ, ◌<◌, ◌≡◌, true, false, List, ◌⊎◌, Float, length, get_or, Some}
 use Rattle.std.specs.Float.Ieee.{lt}
 use Rattle.graph.specs.Counting.{count_of}
 use Rattle.plan.specs.Problem.{Problem, Genes}
@@ -17,7 +16,7 @@ first_fitness p g = line_fitness p (lines_of_genes p g)
 
 -- a machine for an activity: one of its candidates, or the one that it had
 abbrev pub Able : Problem → Genes → (a m : ℕ) → Type 0
-Able p g a m = (0 < count_of m (p.candidates a)) ⊎ (g.assigned a ≡ some m)
+Able p g a m = (0 < count_of m (p.candidates a)) ⊎ (g.assigned a ≡ Some m)
 
 -- each task is named as often as it has activities, and each activity has a machine
 pub record WholeGenes (p : Problem) (g : Genes) (tasks machines : List ℕ) : Type 0 where

@@ -1,4 +1,5 @@
 -- Where task order and predecessors close no circle, one of those pending is always ready, so that every activity of the order is taken.
+use Rattle.std.specs.Prelude.{None, Option, Some, ℕ}
 use Prim.Native.Nat.{ℕ, zero, suc, ◌+◌, ◌≤◌, ◌<◌}
 use mathlib.Core.Path.{◌≡◌, refl, sym, ap, ◌∙◌, subst}
 use mathlib.Core.Bool.{Bool, true, false, not, ◌||◌}
@@ -13,8 +14,6 @@ use Rattle.graph.specs.Counting.{count_of, hit, sum_to, Below}
 use Rattle.graph.specs.Arcs.{Circle, Leads}
 use Rattle.graph.specs.Arcs.Leads.{one, more}
 use Rattle.graph.specs.Links.{to_if}
-use Rattle.graph.specs.declared.Link.{Link}
-use Rattle.graph.specs.declared.Link.TheVariants.{To, Nothing}
 use Rattle.graph.proofs.CountingLaws.{hit-eq, hit-ne, either, below_of, below_more, count_all, sum_to-ap, sum_to-add}
 use Rattle.graph.proofs.CircleLaws.{circle}
 use Rattle.plan.specs.Problem.{Problem}
@@ -67,11 +66,11 @@ waits p pending a h e =
 
 -- ---- none is ready
 
-to_not : (t : Bool) (a : ℕ) (other : Link) → or_else (to_if t a) other ≡ Nothing → (t ≡ false) × (other ≡ Nothing)
+to_not : (t : Bool) (a : ℕ) (other : Option ℕ) → or_else (to_if t a) other ≡ None → (t ≡ false) × (other ≡ None)
 to_not true a other e = let z : ◌≡◌ {A = ℕ} 0 1 = cc in absurd (omega arith)
 to_not false a other e = (refl, e)
 
-none_comes : (p : Problem) (pending l : List ℕ) (a : ℕ) → first_ready p pending l ≡ Nothing → 0 < count_of a l → can_come p pending a ≡ false
+none_comes : (p : Problem) (pending l : List ℕ) (a : ℕ) → first_ready p pending l ≡ None → 0 < count_of a l → can_come p pending a ≡ false
 unfolding first_ready count_of
 none_comes p pending [] a e h = absurd (omega arith)
 none_comes p pending (b ∷ l) a e h =
@@ -84,7 +83,7 @@ module _ (p : Problem) (activities : List ℕ) (known : Below p.n activities) (a
   abbrev Listed : List ℕ → Type 0
   Listed pending = (x : ℕ) → get_or pending x 0 ≡ 1 → 0 < count_of x activities
 
-  none_left : (pending : List ℕ) → Listed pending → first_ready p pending activities ≡ Nothing → (x : ℕ) → get_or pending x 0 ≡ 1 → ⊥
+  none_left : (pending : List ℕ) → Listed pending → first_ready p pending activities ≡ None → (x : ℕ) → get_or pending x 0 ≡ 1 → ⊥
   none_left pending listed e x z =
       let c = circle p.n (Leads (Before p)) (λ a. get_or pending a 0 ≡ 1) back x (below_of p.n x activities known (listed x z)) z in
       acyclic (c.0, c.1, flat c.2)
@@ -125,13 +124,13 @@ module _ (p : Problem) (activities : List ℕ) (known : Below p.n activities) (a
       (λ e. absurd (omega (arith, z, subst (λ (y : ℕ). get_or (set pending a 0) y 0 ≡ 0) e (get_or-set_same pending a 0 0 (omega arith)))))
       (λ ne. (ne, sym (get_or-set_other pending a x 0 0 (λ e. ne (sym e))) ∙ z))
 
-  all_come : p.n ≤ 128 → (fuel : ℕ) (pending : List ℕ) (next : Link) → next ≡ first_ready p pending activities → length pending ≡ 128 → Listed pending → to_come pending ≤ fuel
+  all_come : p.n ≤ 128 → (fuel : ℕ) (pending : List ℕ) (next : Option ℕ) → next ≡ first_ready p pending activities → length pending ≡ 128 → Listed pending → to_come pending ≤ fuel
       → (x : ℕ) → get_or pending x 0 ≡ 1 → 0 < count_of x (ready_from p activities fuel next pending)
   unfolding ready_from count_of
   all_come few zero pending next e l listed enough x z =
       absurd (omega (arith, hit-eq (get_or pending x 0) 1 z, at_most p.n (λ y. hit (get_or pending y 0) 1) x (below_of p.n x activities known (listed x z))))
-  all_come few (suc fuel) pending Nothing e l listed enough x z = absurd (none_left pending listed (sym e) x z)
-  all_come few (suc fuel) pending (To a) e l listed enough x z =
+  all_come few (suc fuel) pending None e l listed enough x z = absurd (none_left pending listed (sym e) x z)
+  all_come few (suc fuel) pending (Some a) e l listed enough x z =
       let here = below_of p.n a activities known (first_is p pending activities a (sym e)).0 in
       let less = one_less pending a l few here (first_pending p pending activities a (sym e)) in
       let rest = all_come few fuel (set pending a 0) (first_ready p (set pending a 0) activities) refl (length-set pending a 0 ∙ l)

@@ -1,4 +1,5 @@
 -- One activity that comes next upon a board: what its seat asks is there, and what is worked out is the seat by the rule.
+use Rattle.std.specs.Prelude.{Option, ℕ}
 use Prim.Native.Nat.{ℕ, ◌<◌, ◌^◌}
 use mathlib.Core.Path.{◌≡◌, sym, ap, ◌∙◌}
 use mathlib.Core.List.{List}
@@ -6,7 +7,6 @@ use native.Mathlib.Omega.{arith}
 use lib.ListN.{get_or}
 use Rattle.graph.specs.Counting.{Below}
 use Rattle.graph.specs.Links.{linked}
-use Rattle.graph.specs.declared.Link.{Link}
 use Rattle.plan.specs.Problem.{Problem, Genes}
 use Rattle.plan.specs.Found.{transports_of, between}
 use Rattle.plan.specs.Accepted.{Accepted}
@@ -21,7 +21,7 @@ use Rattle.board.proofs.SeatLaws.{last_below}
 use Rattle.board.proofs.BoardLaws.{seat_is, from_known, seat_sound, ends_within}
 use Rattle.in_order.specs.Waiting.{Coming}
 
-module _ (p : Problem) (g : Genes) (ok : Accepted p g) {b : Board} {a m : ℕ} {step : Link} {way : ℕ} (k : Coming p g b a m step way) where
+module _ (p : Problem) (g : Genes) (ok : Accepted p g) {b : Board} {a m : ℕ} {step : Option ℕ} {way : ℕ} (k : Coming p g b a m step way) where
   pub way_small : way < 2 ^ 32
   way_small =
       omega (arith, k.moved, ok.transport (machine_before step (assigned_to g)) m (from_known p g ok (assigned_to g) (λ q h. assigned_known ok q) k.sound (p.task_of a) k.after) k.there)
@@ -32,7 +32,7 @@ module _ (p : Problem) (g : Genes) (ok : Accepted p g) {b : Board} {a m : ℕ} {
   pub ends_small : (q : ℕ) → get_or b.ends q 0 < 2 ^ 61
   ends_small q = omega (arith, ends_within ok.activities.1 k.sound q)
 
-  module _ {line : Link} (el : line ≡ last_on p b m) where
+  module _ {line : Option ℕ} (el : line ≡ last_on p b m) where
     pub line_below : Below p.n (linked line)
     line_below = rw el (last_below p.n b.lines m)
 
@@ -69,7 +69,7 @@ way_is p g ok {rows} e from m hf hm =
     ap (λ (x : List (List ℕ)). between x from m) e ∙ between_at p.transport p.machines p.machines from m hf ok.machines.1 hm ok.machines.1
 
 -- What is known of an activity that comes next.
-pub coming_next : (p : Problem) (g : Genes) {b : Board} {a m : ℕ} {step : Link} {from way : ℕ} → Sound p.n b → a < p.n → m < p.machines → get_or b.settled a 0 ≡ 0
+pub coming_next : (p : Problem) (g : Genes) {b : Board} {a m : ℕ} {step : Option ℕ} {from way : ℕ} → Sound p.n b → a < p.n → m < p.machines → get_or b.settled a 0 ≡ 0
     → step ≡ last_of p b (p.task_of a) → from ≡ machine_before step (assigned_to g) → way ≡ p.transport from m → Coming p g b a m step way
 coming_next p g {b} {a} {m} {step} {from} {way} s h k u e f w =
     record { sound = s; here = h; there = k; unsettled = u; after = e; moved = w ∙ ap (λ (x : ℕ). p.transport x m) f }

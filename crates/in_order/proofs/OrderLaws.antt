@@ -1,4 +1,5 @@
 -- What the order of those taken is: activities of the given order, none of them twice.
+use Rattle.std.specs.Prelude.{None, Option, Some, ℕ}
 use Prim.Native.Nat.{ℕ, zero, suc, ◌≤◌, ◌<◌}
 use mathlib.Core.Path.{◌≡◌, refl, sym, ap, ◌∙◌, subst}
 use mathlib.Core.List.{List}
@@ -6,8 +7,6 @@ use native.Mathlib.Omega.{arith}
 use lib.ListN.{length, get_or, set, replicate, length-set}
 use lib.Seq.{get_or-set_same, get_or-set_other}
 use Rattle.graph.specs.Counting.{count_of, hit, Below}
-use Rattle.graph.specs.declared.Link.{Link}
-use Rattle.graph.specs.declared.Link.TheVariants.{To, Nothing}
 use Rattle.graph.proofs.CountingLaws.{hit-eq, hit-ne, hit-le, either, below_of}
 use Rattle.plan.specs.Problem.{Problem, Genes}
 use Rattle.plan.specs.Accepted.{Accepted}
@@ -21,26 +20,26 @@ pub naming_of : {p : Problem} {g : Genes} {table : List ℕ} → Accepted p g �
 naming_of ok t = record { tabled = t; few = ok.activities.1; named = ok.predecessors }
 
 module _ (p : Problem) (activities : List ℕ) (known : Below p.n activities) where
-  from_below : (fuel : ℕ) (pending : List ℕ) (next : Link) → next ≡ first_ready p pending activities → Below p.n (ready_from p activities fuel next pending)
+  from_below : (fuel : ℕ) (pending : List ℕ) (next : Option ℕ) → next ≡ first_ready p pending activities → Below p.n (ready_from p activities fuel next pending)
   unfolding ready_from Below
   from_below zero pending next e = tt
-  from_below (suc fuel) pending Nothing e = tt
-  from_below (suc fuel) pending (To a) e =
+  from_below (suc fuel) pending None e = tt
+  from_below (suc fuel) pending (Some a) e =
       (below_of p.n a activities known (first_is p pending activities a (sym e)).0, from_below fuel (set pending a 0) (first_ready p (set pending a 0) activities) refl)
 
-  from_few : (fuel : ℕ) (pending : List ℕ) (next : Link) → length (ready_from p activities fuel next pending) ≤ fuel
+  from_few : (fuel : ℕ) (pending : List ℕ) (next : Option ℕ) → length (ready_from p activities fuel next pending) ≤ fuel
   unfolding ready_from
   from_few zero pending next = omega arith
-  from_few (suc fuel) pending Nothing = omega arith
-  from_few (suc fuel) pending (To a) = omega (arith, from_few fuel (set pending a 0) (first_ready p (set pending a 0) activities))
+  from_few (suc fuel) pending None = omega arith
+  from_few (suc fuel) pending (Some a) = omega (arith, from_few fuel (set pending a 0) (first_ready p (set pending a 0) activities))
 
   -- Only what is pending is still to come, and that once.
-  from_once : (few : p.n ≤ 128) (fuel : ℕ) (pending : List ℕ) (next : Link) → next ≡ first_ready p pending activities → length pending ≡ 128
+  from_once : (few : p.n ≤ 128) (fuel : ℕ) (pending : List ℕ) (next : Option ℕ) → next ≡ first_ready p pending activities → length pending ≡ 128
       → (x : ℕ) → count_of x (ready_from p activities fuel next pending) ≤ hit (get_or pending x 0) 1
   unfolding ready_from count_of
   from_once few zero pending next e l x = omega arith
-  from_once few (suc fuel) pending Nothing e l x = omega arith
-  from_once few (suc fuel) pending (To a) e l x =
+  from_once few (suc fuel) pending None e l x = omega arith
+  from_once few (suc fuel) pending (Some a) e l x =
       let k : a < 128 = omega (arith, few, below_of p.n a activities known (first_is p pending activities a (sym e)).0) in
       let rest = from_once few fuel (set pending a 0) (first_ready p (set pending a 0) activities) refl (length-set pending a 0 ∙ l) x in
       either a x

@@ -1,4 +1,5 @@
 -- The loops that look for the first ready activity: what is left answers what the whole does.
+use Rattle.std.specs.Prelude.{None, Some}
 use Prim.Native.Nat.{ℕ, zero, suc, ◌+◌, ◌-◌, ◌≤◌, ◌<◌}
 use mathlib.Core.Path.{◌≡◌, refl, sym, ap, ◌∙◌}
 use mathlib.Core.Bool.{Bool, true, false, ◌||◌}
@@ -11,7 +12,6 @@ use lib.ListN.{length, get_or, set, drop, length-set}
 use lib.Seq.{drop-cons, drop-length}
 use Rattle.graph.specs.Counting.{count_of}
 use Rattle.graph.proofs.CountingLaws.{hit-eq}
-use Rattle.graph.specs.declared.Link.TheVariants.{To, Nothing}
 use Rattle.plan.specs.Problem.{Problem}
 use Rattle.tables.specs.Tabled.{task_pred}
 use Rattle.graph.specs.Links.{to_if}
@@ -79,22 +79,22 @@ module _ {pending list : List ℕ} {i : ℕ} (w : Asking pending list i) where
 
 -- ---- `step_pending`
 
-to_less : (t : Bool) (a b : ℕ) → to_if t a ≡ To b → b ≡ a
+to_less : (t : Bool) (a b : ℕ) → to_if t a ≡ Some b → b ≡ a
 to_less true a b e = cc
 to_less false a b e = let z : ◌≡◌ {A = ℕ} 0 1 = cc in absurd (omega arith)
 
-pub before_less : (p : Problem) (a b : ℕ) → task_pred p a ≡ To b → b < a
+pub before_less : (p : Problem) (a b : ℕ) → task_pred p a ≡ Some b → b < a
 before_less p zero b e = let z : ◌≡◌ {A = ℕ} 0 1 = cc in absurd (omega arith)
 before_less p (suc a) b e = omega (arith, to_less (eqb (p.task_of a) (p.task_of (suc a))) a b e)
 
 module _ (p : Problem) (pending : List ℕ) (a : ℕ) where
-  pub no_step : task_pred p a ≡ Nothing → false ≡ step_pending p pending a
+  pub no_step : task_pred p a ≡ None → false ≡ step_pending p pending a
   no_step e = rw e
 
-  pub step_waits : (b : ℕ) → task_pred p a ≡ To b → get_or pending b 0 ≡ 1 → true ≡ step_pending p pending a
+  pub step_waits : (b : ℕ) → task_pred p a ≡ Some b → get_or pending b 0 ≡ 1 → true ≡ step_pending p pending a
   step_waits b e z = rw (e, eq-eqb (get_or pending b 0) 1 z)
 
-  pub step_taken : (b : ℕ) → task_pred p a ≡ To b → (get_or pending b 0 ≡ 1 → ⊥) → false ≡ step_pending p pending a
+  pub step_taken : (b : ℕ) → task_pred p a ≡ Some b → (get_or pending b 0 ≡ 1 → ⊥) → false ≡ step_pending p pending a
   step_taken b e ne = rw (e, ne_eqb (get_or pending b 0) 1 ne)
 
 -- ---- `first_ready`
@@ -103,7 +103,7 @@ pub record Seeking (p : Problem) (pending activities : List ℕ) (from i : ℕ) 
   pub left : first_ready p pending (drop i activities) ≡ first_ready p pending (drop from activities)
 
 module _ {p : Problem} {pending activities : List ℕ} {from i : ℕ} (w : Seeking p pending activities from i) where
-  pub none_ready : i ≤ length activities → length activities ≤ i → Nothing ≡ first_ready p pending (drop from activities)
+  pub none_ready : i ≤ length activities → length activities ≤ i → None ≡ first_ready p pending (drop from activities)
   unfolding first_ready
   none_ready k h = sym (none_left (first_ready p pending) activities i k h) ∙ w.left
 
@@ -111,7 +111,7 @@ module _ {p : Problem} {pending activities : List ℕ} {from i : ℕ} (w : Seeki
     sought : first_ready p pending (get_or activities i 0 ∷ drop (i + 1) activities) ≡ first_ready p pending (drop from activities)
     sought = sym (next_of (first_ready p pending) activities i h) ∙ w.left
 
-    pub this_one : true ≡ can_come p pending (get_or activities i 0) → To (get_or activities i 0) ≡ first_ready p pending (drop from activities)
+    pub this_one : true ≡ can_come p pending (get_or activities i 0) → Some (get_or activities i 0) ≡ first_ready p pending (drop from activities)
     unfolding first_ready
     this_one e = rw (sym e) at sought
 

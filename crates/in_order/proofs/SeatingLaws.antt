@@ -1,4 +1,5 @@
 -- The loop that places all that are ready: the board so far, with the rest placed upon it, is the whole.
+use Rattle.std.specs.Prelude.{None, Some}
 use Prim.Native.Nat.{ℕ, ◌+◌, ◌-◌, ◌≤◌, ◌<◌}
 use mathlib.Core.Path.{◌≡◌, refl, sym, ap, ◌∙◌, subst}
 use mathlib.Core.List.{List}
@@ -9,8 +10,6 @@ use Rattle.graph.specs.Counting.{count_of, hit, Below}
 use Rattle.graph.proofs.CountingLaws.{hit-eq, either}
 use Rattle.graph.proofs.NamingLaws.{zeros_at}
 use Rattle.plan.specs.Problem.{Problem, Genes}
-use Rattle.plan.specs.Found.{machine_or}
-use Rattle.plan.specs.declared.Machine.TheVariants.{On, Nothing}
 use Rattle.genes.specs.Indexed.{assigned_to}
 use Rattle.genes.specs.Held.{Listed}
 use Rattle.board.specs.Board.{Board, empty_board, seat, sit, settle}
@@ -108,12 +107,12 @@ module _ {p : Problem} {g : Genes} {ready order₀ order : List ℕ} {b : Board}
           rest = ap (sit_all p g (drop (i + 1) ready)) e ∙ sym (next_of (λ (y : List ℕ). sit_all p g y b) ready i h) ∙ w.rest;
         }
 
-    pub settled_next : Nothing ≡ machine_or (g.assigned a) → {b' : Board} → b' ≡ settle a b → Seating p g ready order₀ order b' count (i + 1)
+    pub settled_next : None ≡ (g.assigned a) → {b' : Board} → b' ≡ settle a b → Seating p g ready order₀ order b' count (i + 1)
     settled_next e {b'} f =
         let z : settle a b ≡ seat_or_settle p g a (g.assigned a) b = rw (without_machine (g.assigned a) e) refl in
         next (f ∙ z) (rw f (settle_sound w.sound a here)) (ap (λ (x : Board). x.settled) f) (omega arith) (omega arith) refl (λ j q. refl)
 
-    pub placed_next : (m : ℕ) → On m ≡ machine_or (g.assigned a) → {order' : List ℕ} {b' : Board} → b' ≡ sit p (seat p (assigned_to g) b a m) b
+    pub placed_next : (m : ℕ) → Some m ≡ (g.assigned a) → {order' : List ℕ} {b' : Board} → b' ≡ sit p (seat p (assigned_to g) b a m) b
         → Sound p.n (sit p (seat p (assigned_to g) b a m) b) → order' ≡ set order count a → Seating p g ready order₀ order' b' (count + 1) (i + 1)
     placed_next m e {order'} {b'} f s o =
         let z : sit p (seat p (assigned_to g) b a m) b ≡ seat_or_settle p g a (g.assigned a) b = rw (with_machine (g.assigned a) m e) refl in

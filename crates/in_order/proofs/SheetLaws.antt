@@ -1,8 +1,8 @@
 -- Activities placed one after the other keep the board sound, and its order is those of them that have a machine.
+use Rattle.std.specs.Prelude.{None, Option, Some}
 use Prim.Native.Nat.{ℕ, ◌+◌, ◌≤◌, ◌<◌}
 use mathlib.Core.Path.{◌≡◌, refl, sym, ap, ◌∙◌}
 use mathlib.Core.List.{List, [], ◌∷◌, ◌++◌, append-nil}
-use mathlib.Core.Option.{Option, none, some}
 use native.Mathlib.Omega.{arith}
 use lib.ListN.{get_or, set}
 use lib.Seq.{get_or-set_other, append_snoc}
@@ -20,12 +20,12 @@ use Rattle.in_order.specs.InOrder.{seat_or_settle, sit_all}
 
 module _ (p : Problem) (g : Genes) (ok : Accepted p g) where
   one_sound : {b : Board} (a : ℕ) → Sound p.n b → a < p.n → get_or b.settled a 0 ≡ 0 → (o : Option ℕ) → g.assigned a ≡ o → Sound p.n (seat_or_settle p g a o b)
-  one_sound a s h z none e = settle_sound s a h
-  one_sound a s h z (some m) e = seat_sound p g ok (assigned_to g) (λ q k. assigned_known ok q) s a m h (ok.assigned a m e) z
+  one_sound a s h z None e = settle_sound s a h
+  one_sound a s h z (Some m) e = seat_sound p g ok (assigned_to g) (λ q k. assigned_known ok q) s a m h (ok.assigned a m e) z
 
   one_settled : (b : Board) (a : ℕ) (o : Option ℕ) → (seat_or_settle p g a o b).settled ≡ set b.settled a 1
-  one_settled b a none = refl
-  one_settled b a (some m) = refl
+  one_settled b a None = refl
+  one_settled b a (Some m) = refl
 
   pub all_sound : (l : List ℕ) (b : Board) → Sound p.n b → Below p.n l → ((x : ℕ) → count_of x l ≤ 1) → ((x : ℕ) → 0 < count_of x l → get_or b.settled x 0 ≡ 0)
       → Sound p.n (sit_all p g l b)
@@ -39,8 +39,8 @@ module _ (p : Problem) (g : Genes) (ok : Accepted p g) where
       (λ ne. ap (λ (c : List ℕ). get_or c x 0) (one_settled b a (g.assigned a)) ∙ get_or-set_other b.settled a x 1 0 (λ y. ne (sym y)) ∙ ahead x (omega arith)))
 
   one_order : (b : Board) (a : ℕ) (o : Option ℕ) (rest : List ℕ) → (seat_or_settle p g a o b).order ++ rest ≡ b.order ++ cons_if (is_assigned o) a rest
-  one_order b a none rest = refl
-  one_order b a (some m) rest = append_snoc b.order a rest
+  one_order b a None rest = refl
+  one_order b a (Some m) rest = append_snoc b.order a rest
 
   pub all_order : (l : List ℕ) (b : Board) → (sit_all p g l b).order ≡ b.order ++ those (λ a. is_assigned (g.assigned a)) l
   unfolding sit_all those

@@ -1,4 +1,5 @@
 -- The loop that takes the first ready activity again and again: what is written and the rest are the whole order.
+use Rattle.std.specs.Prelude.{None, Option, Some, ℕ}
 use Prim.Native.Nat.{ℕ, zero, suc, ◌+◌, ◌-◌, ◌≤◌, ◌<◌}
 use mathlib.Core.Path.{◌≡◌, refl, sym, ap, ◌∙◌, subst}
 use mathlib.Core.Bool.{Bool, true, false, cond, ◌&&◌}
@@ -12,8 +13,6 @@ use lib.ListN.{length, get_or, set, take, drop, replicate, length-set, length-dr
 use lib.Seq.{drop-cons, get_or-drop, take-suc-set, append_snoc, get_or-set_same, get_or-set_other, length-take-le}
 use Rattle.graph.specs.Counting.{count_of, Below}
 use Rattle.graph.specs.Links.{to_if}
-use Rattle.graph.specs.declared.Link.{Link}
-use Rattle.graph.specs.declared.Link.TheVariants.{To, Nothing}
 use Rattle.graph.proofs.CountingLaws.{hit-eq, either, below_of}
 use Rattle.plan.specs.Problem.{Problem}
 use Rattle.lines.proofs.LinkLaws.{marked-length}
@@ -24,19 +23,19 @@ use Rattle.in_order.proofs.ReadyLaws.{not_pending}
 
 -- ---- the first that is ready
 
-nothing_to : {A : Type 0} (q : ℕ) → Nothing ≡ To q → A
+nothing_to : {A : Type 0} (q : ℕ) → None ≡ Some q → A
 nothing_to q e = let z : ◌≡◌ {A = ℕ} 0 1 = cc in absurd (omega arith)
 
-to_is : (t : Bool) (a q : ℕ) → to_if t a ≡ To q → (t ≡ true) × (a ≡ q)
+to_is : (t : Bool) (a q : ℕ) → to_if t a ≡ Some q → (t ≡ true) × (a ≡ q)
 to_is true a q e = (refl, cc)
 to_is false a q e = nothing_to q e
 
-either_link : (first other : Link) (q : ℕ) → or_else first other ≡ To q → (first ≡ To q) ⊎ (other ≡ To q)
-either_link (To b) other q e = inl e
-either_link Nothing other q e = inr e
+either_link : (first other : Option ℕ) (q : ℕ) → or_else first other ≡ Some q → (first ≡ Some q) ⊎ (other ≡ Some q)
+either_link (Some b) other q e = inl e
+either_link None other q e = inr e
 
 -- It is one of the list, pending and ready.
-pub first_is : (p : Problem) (pending l : List ℕ) (q : ℕ) → first_ready p pending l ≡ To q → (0 < count_of q l) × (can_come p pending q ≡ true)
+pub first_is : (p : Problem) (pending l : List ℕ) (q : ℕ) → first_ready p pending l ≡ Some q → (0 < count_of q l) × (can_come p pending q ≡ true)
 unfolding first_ready count_of
 first_is p pending [] q e = nothing_to q e
 first_is p pending (b ∷ l) q e =
@@ -50,7 +49,7 @@ and_left : (a b : Bool) → (a && b) ≡ true → a ≡ true
 and_left true b e = refl
 and_left false b e = e
 
-pub first_pending : (p : Problem) (pending l : List ℕ) (q : ℕ) → first_ready p pending l ≡ To q → get_or pending q 0 ≡ 1
+pub first_pending : (p : Problem) (pending l : List ℕ) (q : ℕ) → first_ready p pending l ≡ Some q → get_or pending q 0 ≡ 1
 first_pending p pending l q e = eqb-true (get_or pending q 0) 1 (and_left (is_pending pending q) _ (first_is p pending l q e).1)
 
 -- ---- the front
@@ -151,21 +150,21 @@ module _ {activities order₀ order pending : List ℕ} {front taken : ℕ} (w :
       }
 
   module _ (p : Problem) (c : Coming p activities order pending taken) where
-    module _ {next : ℕ} {link : Link} (h : taken < length activities) (e : next ≡ front + taken_before pending (drop front activities))
+    module _ {next : ℕ} {link : Option ℕ} (h : taken < length activities) (e : next ≡ front + taken_before pending (drop front activities))
         (f : link ≡ first_ready p pending (drop next activities)) where
       first : first_ready p pending activities ≡ link
       first = sym (f ∙ from_front p pending activities next (front_within pending activities w.fronted e) (front_passed pending activities w.fronted e w.passed))
 
-      pub a_known : Below p.n activities → p.n ≤ 128 → {a : ℕ} → link ≡ To a → a < 128
+      pub a_known : Below p.n activities → p.n ≤ 128 → {a : ℕ} → link ≡ Some a → a < 128
       a_known b few {a} t = omega (arith, below_of p.n a activities b (first_is p pending activities a (first ∙ t)).0)
 
-      pub a_comes : {a : ℕ} → link ≡ To a → can_come p pending a ≡ true
+      pub a_comes : {a : ℕ} → link ≡ Some a → can_come p pending a ≡ true
       a_comes {a} t = (first_is p pending activities a (first ∙ t)).1
 
       fuel : length activities - taken ≡ suc (length activities - (taken + 1))
       fuel = omega arith
 
-      pub come_again : {a : ℕ} → link ≡ To a → taken < length order → Coming p activities (set order taken a) (set pending a 0) (taken + 1)
+      pub come_again : {a : ℕ} → link ≡ Some a → taken < length order → Coming p activities (set order taken a) (set pending a 0) (taken + 1)
       unfolding ready_from
       come_again {a} t room =
           let rest = ready_from p activities (length activities - (taken + 1)) (first_ready p (set pending a 0) activities) (set pending a 0) in
@@ -173,7 +172,7 @@ module _ {activities order₀ order pending : List ℕ} {front taken : ℕ} (w :
           let z : ready_from p activities (length activities - taken) (first_ready p pending activities) pending ≡ a ∷ rest = rw (fuel, first, t) refl in
           ap (λ (x : List ℕ). x ++ rest) l ∙ append_snoc (take taken order) a rest ∙ ap (λ (x : List ℕ). take taken order ++ x) (sym z) ∙ c
 
-      pub come_none : link ≡ Nothing → take taken order ≡ ready_order p activities
+      pub come_none : link ≡ None → take taken order ≡ ready_order p activities
       unfolding ready_from
       come_none t =
           let z : ready_from p activities (length activities - taken) (first_ready p pending activities) pending ≡ [] = rw (fuel, first, t) refl in

@@ -1,10 +1,7 @@
 -- Document 01, "Two decoders", in order: repeatedly the first activity whose predecessors and earlier task steps are taken or not in the
 -- order. Without a machine it is settled, end 0, unplaced.
-use Rattle.std.specs.Prelude.{ℕ, zero, suc, Bool, false, not, ◌&&◌, ◌||◌, List, [], ◌∷◌, eqb, length, get_or, set, replicate}
-use Rattle.std.proofs.Math.Option.{Option, none, some}
+use Rattle.std.specs.Prelude.{ℕ, zero, suc, Bool, false, not, ◌&&◌, ◌||◌, List, [], ◌∷◌, eqb, length, get_or, set, replicate, Some, None, Option}
 use Rattle.graph.specs.Links.{to_if}
-use Rattle.graph.specs.declared.Link.{Link}
-use Rattle.graph.specs.declared.Link.TheVariants.{To, Nothing}
 use Rattle.plan.specs.Problem.{Problem, Genes}
 use Rattle.lines.specs.Linking.{marked}
 use Rattle.genes.specs.Indexed.{indexed, assigned_to}
@@ -32,19 +29,19 @@ is_ready p pending a = not (any_pending pending (p.predecessors a) || earlier_pe
 abbrev pub can_come : Problem → (pending : List ℕ) → ℕ → Bool
 can_come p pending a = is_pending pending a && is_ready p pending a
 
-abbrev pub or_else : Link → Link → Link
-or_else (To a) other = To a
-or_else Nothing other = other
+abbrev pub or_else : Option ℕ → Option ℕ → Option ℕ
+or_else (Some a) other = Some a
+or_else None other = other
 
-unfoldable pub first_ready : Problem → (pending activities : List ℕ) → Link
-first_ready p pending [] = Nothing
+unfoldable pub first_ready : Problem → (pending activities : List ℕ) → Option ℕ
+first_ready p pending [] = None
 first_ready p pending (a ∷ l) = or_else (to_if (can_come p pending a) a) (first_ready p pending l)
 
 -- the first that is ready, then the first of those left, and so on
-unfoldable pub ready_from : Problem → (activities : List ℕ) → (fuel : ℕ) → Link → (pending : List ℕ) → List ℕ
+unfoldable pub ready_from : Problem → (activities : List ℕ) → (fuel : ℕ) → Option ℕ → (pending : List ℕ) → List ℕ
 ready_from p activities zero next pending = []
-ready_from p activities (suc fuel) Nothing pending = []
-ready_from p activities (suc fuel) (To a) pending =
+ready_from p activities (suc fuel) None pending = []
+ready_from p activities (suc fuel) (Some a) pending =
     a ∷ ready_from p activities fuel (first_ready p (set pending a 0) activities) (set pending a 0)
 
 -- all of the order are pending at first; there are 128 activities at most
@@ -57,8 +54,8 @@ ready_order p activities = ready_from p activities (length activities) (first_re
 -- ---- placing them
 
 abbrev pub seat_or_settle : Problem → Genes → ℕ → Option ℕ → Board → Board
-seat_or_settle p g a none b = settle a b
-seat_or_settle p g a (some m) b = sit p (seat p (assigned_to g) b a m) b
+seat_or_settle p g a None b = settle a b
+seat_or_settle p g a (Some m) b = sit p (seat p (assigned_to g) b a m) b
 
 unfoldable pub sit_all : Problem → Genes → (activities : List ℕ) → Board → Board
 sit_all p g [] b = b

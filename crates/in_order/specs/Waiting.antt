@@ -1,8 +1,6 @@
 -- What the order's functions ask of their slices.
-use Rattle.std.specs.Prelude.{ℕ, suc, ◌≤◌, ◌<◌, Bool, false, cond, ◌≡◌, List, [], ◌∷◌, length, get_or}
+use Rattle.std.specs.Prelude.{ℕ, suc, ◌≤◌, ◌<◌, Bool, false, cond, ◌≡◌, List, [], ◌∷◌, length, get_or, Some, None, Option}
 use Rattle.graph.specs.Counting.{count_of, Below}
-use Rattle.graph.specs.declared.Link.{Link}
-use Rattle.graph.specs.declared.Link.TheVariants.{To, Nothing}
 use Rattle.plan.specs.Problem.{Problem, Genes}
 use Rattle.tables.specs.Tabled.{Tabled, task_pred}
 use Rattle.timing.specs.Placing.{machine_before}
@@ -12,9 +10,9 @@ use Rattle.in_order.specs.InOrder.{is_pending, earlier_pending}
 use Rattle.board.specs.Sound.{Sized, Sound}
 
 -- The step before is pending.
-abbrev pub link_pending : (pending : List ℕ) → Link → Bool
-link_pending pending Nothing = false
-link_pending pending (To b) = is_pending pending b
+abbrev pub link_pending : (pending : List ℕ) → Option ℕ → Bool
+link_pending pending None = false
+link_pending pending (Some b) = is_pending pending b
 
 abbrev pub step_pending : Problem → (pending : List ℕ) → ℕ → Bool
 step_pending p pending a = link_pending pending (task_pred p a)
@@ -60,7 +58,7 @@ taken_before pending [] = 0
 taken_before pending (a ∷ l) = cond (is_pending pending a) 0 (suc (taken_before pending l))
 
 -- An activity that comes next upon a board, on machine m: `step` is the last placed of its task, `way` that from its machine.
-pub record Coming (p : Problem) (g : Genes) (b : Board) (a m : ℕ) (step : Link) (way : ℕ) : Type 0 where
+pub record Coming (p : Problem) (g : Genes) (b : Board) (a m : ℕ) (step : Option ℕ) (way : ℕ) : Type 0 where
   pub sound : Sound p.n b
   pub here : a < p.n
   pub there : m < p.machines

@@ -13,11 +13,10 @@ ghost use Rattle.in_order.specs.InOrder.{ready_order, sit_all, place_in_order};
 ghost use Rattle.in_order.specs.Waiting.{Coming, Owned, Upon, Given, Rooms, Timed};
 
 use crate::ready_order;
-use graph::Link;
-use plan::{Layout, Machine};
+use plan::Layout;
 
 // The last placed of an activity's task, of n activities.
-fn step_of(table: &[usize], steps: &[usize], a: usize, n: usize) -> Link
+fn step_of(table: &[usize], steps: &[usize], a: usize, n: usize) -> Option<usize>
     requires { Owned table.now steps.now a }
     ensures { (p : Problem) → Tabled p table.now → a < p.n → result ≡ last_placed n steps.now (p.task_of a) }
 {
@@ -32,7 +31,7 @@ fn place_one(
     table: &[usize],
     a: usize,
     m: usize,
-    step: Link,
+    step: Option<usize>,
     way: u64,
     count: usize,
     order: &mut [usize],
@@ -81,7 +80,7 @@ fn place_ready(
     while i < ready.len() {
         let a = ready[i];
         i += 1;
-        let Machine::On(m) = plan::assigned(s, z, a) else {
+        let Some(m) = plan::assigned(s, z, a) else {
             board::settle(settled, a);
             continue;
         };

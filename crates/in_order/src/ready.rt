@@ -8,7 +8,6 @@ ghost use Rattle.genes.specs.Held.{Listed};
 ghost use Rattle.in_order.specs.InOrder.{any_pending, is_ready, can_come, first_ready, ready_order};
 ghost use Rattle.in_order.specs.Waiting.{taken_before, step_pending, Told, Stepwise, Naming, Flagged, Waiting, Ordered};
 
-use graph::Link;
 
 // Marks all of the order as pending.
 fn mark(activities: &[usize], pending: &mut [usize])
@@ -44,7 +43,7 @@ fn step_pending(table: &[usize], pending: &[usize], a: usize) -> bool
     requires { Flagged table.now pending.now a }
     ensures { (p : Problem) → Tabled p table.now → a < p.n → result ≡ step_pending p pending.now a }
 {
-    let Link::To(b) = tables::before_of(table, a) else {
+    let Some(b) = tables::before_of(table, a) else {
         return false;
     };
     if pending[b] == 1 {
@@ -96,7 +95,7 @@ fn skip_taken(activities: &[usize], pending: &[usize], from: usize) -> usize
 }
 
 // The first of the order, from one place on, that is pending and ready.
-fn first_ready(table: &[usize], activities: &[usize], pending: &[usize], from: usize) -> Link
+fn first_ready(table: &[usize], activities: &[usize], pending: &[usize], from: usize) -> Option<usize>
     requires { Waiting table.now activities.now pending.now × (from ≤ length activities.now) }
     ensures { (p : Problem) → Naming p table.now → Below p.n activities.now → ((a : ℕ) → 0 < count_of a activities.now → Told p pending.now a) → result ≡ first_ready p pending.now (drop from activities.now) }
 {
@@ -104,11 +103,11 @@ fn first_ready(table: &[usize], activities: &[usize], pending: &[usize], from: u
     while i < activities.len() {
         let a = activities[i];
         if can_come(table, pending, a) {
-            return Link::To(a);
+            return Some(a);
         }
         i += 1;
     }
-    Link::Nothing
+    None
 }
 
 // Writes the activities in the order in which they are taken, and answers how many they are. All before the front are taken, so that an
@@ -124,7 +123,7 @@ pub fn ready_order(table: &[usize], activities: &[usize], order: &mut [usize]) -
     let mut taken = 0;
     while taken < activities.len() {
         front = skip_taken(activities, &pending, front);
-        let Link::To(a) = first_ready(table, activities, &pending, front) else {
+        let Some(a) = first_ready(table, activities, &pending, front) else {
             return taken;
         };
         order[taken] = a;

@@ -1,4 +1,5 @@
 -- A problem without lines is a shop: its arcs are task order and named predecessors. Number 4 is given exactly when they close a circle.
+use Rattle.std.specs.Prelude.{None, Option, Some, ℕ}
 use Prim.Native.Nat.{ℕ, zero, suc, ◌+◌, ◌≤◌, ◌<◌}
 use mathlib.Core.Path.{◌≡◌, refl, sym, ap, ◌∙◌, subst}
 use mathlib.Core.Bool.{Bool, true, false, cond, ◌&&◌, false≢true}
@@ -13,8 +14,6 @@ use Rattle.graph.specs.Arcs.{Circle}
 use Rattle.graph.specs.Links.{linked, to_if}
 use Rattle.graph.specs.Exact.{Counted, graph_order}
 use Rattle.graph.specs.Shop.{Shop, Arc, line, task, name, ins}
-use Rattle.graph.specs.declared.Link.{Link}
-use Rattle.graph.specs.declared.Link.TheVariants.{To, Nothing}
 use Rattle.graph.proofs.CountingLaws.{either, hit-eq, hit-ne}
 use Rattle.graph.proofs.CircleLaws.{circle_map}
 use Rattle.graph.proofs.ShopTheorem.{graph, contradicts}
@@ -25,11 +24,11 @@ use Rattle.intake.specs.Circle.{Before, step, name as named, each, frees, closes
 
 -- ---- links that are there or not
 
-pub nothing_below : (n : ℕ) → Below n (linked Nothing)
+pub nothing_below : (n : ℕ) → Below n (linked None)
 unfolding Below
 nothing_below n = tt
 
-pub nothing_counts : (a b : ℕ) → count_of a (linked Nothing) ≡ count_of b (linked Nothing)
+pub nothing_counts : (a b : ℕ) → count_of a (linked None) ≡ count_of b (linked None)
 unfolding count_of
 nothing_counts a b = refl
 
@@ -97,8 +96,8 @@ module _ (p : Problem) (g : Genes) (ok : Accepted p g) where
   bare =
       record {
         n = p.n;
-        line_pred = λ a. Nothing;
-        line_succ = λ a. Nothing;
+        line_pred = λ a. None;
+        line_succ = λ a. None;
         task_pred = task_pred p;
         task_succ = task_succ p;
         named = p.predecessors;

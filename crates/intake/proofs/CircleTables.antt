@@ -1,4 +1,5 @@
 -- The tables hold the shop without lines, so that the order over them answers number 4.
+use Rattle.std.specs.Prelude.{None, Some}
 use Prim.Native.Nat.{ℕ, zero, suc, ◌+◌, ◌≤◌, ◌<◌}
 use mathlib.Core.Path.{◌≡◌, refl, sym, ap, ap₂, ◌∙◌}
 use mathlib.Core.Bool.{Bool, true, false, cond, ◌&&◌}
@@ -11,7 +12,6 @@ use borrow.Author.Tests.{lt-ltb, le-ltb}
 use Rattle.graph.specs.Links.{linked, link_of, succs_of, Shaped, Linked, to_if}
 use Rattle.graph.specs.Order.{order_of}
 use Rattle.graph.specs.Exact.{graph_order}
-use Rattle.graph.specs.declared.Link.TheVariants.{To, Nothing}
 use Rattle.graph.proofs.Holding.{Holds, holds_linked, answer-length}
 use Rattle.graph.proofs.ShopTheorem.{graph}
 use Rattle.plan.specs.Problem.{Problem, Genes}
@@ -51,7 +51,7 @@ module _ (p : Problem) (g : Genes) (ok : Accepted p g) {table : List ℕ} (t : T
   length-waits = part_long table 512 p.n (omega (arith, few, t.sized))
 
   -- no line links, and the task links
-  no_line : (a : ℕ) → a < p.n → link_of none a ≡ Nothing
+  no_line : (a : ℕ) → a < p.n → link_of none a ≡ None
   no_line a h =
       let e : get_or none a 0 ≡ p.n = get_or-take p.n (replicate 128 p.n) a 0 h ∙ get_or-replicate 128 a p.n 0 (omega (arith, few)) in
       rw (e, length_none, le-ltb p.n p.n (omega arith))

@@ -1,15 +1,14 @@
 -- Document 01, number 4: task order and predecessors alone close a circle, self included. "Task order" is the order of steps in a task.
-use Rattle.std.specs.Prelude.{ℕ, zero, suc, ◌+◌, ◌≤◌, ◌<◌, ◌≡◌, Bool, List, [], ◌∷◌, ◌++◌, ltb, length, take, replicate}
+use Rattle.std.specs.Prelude.{ℕ, zero, suc, ◌+◌, ◌≤◌, ◌<◌, ◌≡◌, Bool, List, [], ◌∷◌, ◌++◌, ltb, length, take, replicate, Some}
 use Rattle.graph.specs.Counting.{count_of}
 use Rattle.graph.specs.Order.{order_of}
 use Rattle.graph.specs.Links.{linked}
-use Rattle.graph.specs.declared.Link.TheVariants.{To}
 use Rattle.plan.specs.Problem.{Problem}
 use Rattle.tables.specs.Tabled.{task_pred, task_succ, waits_of}
 
 -- q comes before a: it is the step before it in its task, or a names it.
 pub data Before (p : Problem) (q a : ℕ) : Type 0 where
-  step : a < p.n → task_pred p a ≡ To q → Before p q a
+  step : a < p.n → task_pred p a ≡ Some q → Before p q a
   name : a < p.n → 0 < count_of q (p.predecessors a) → Before p q a
 
 -- f at each of the m numbers from k on.

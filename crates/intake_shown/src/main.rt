@@ -8,7 +8,6 @@ ghost use Rattle.stream.specs.Stream.{Loses};
 use reader::Answer;
 use std::io;
 use std::io::{Read, Write};
-use stream::Next;
 
 fn main(rt: HostRuntime) -> io::Result<()> {
     let mut input = rt.stdin();
@@ -30,7 +29,7 @@ fn main(rt: HostRuntime) -> io::Result<()> {
 fn take_one<R: Read, W: Write>(input: &mut R, out: &mut W, plan: &mut [u8]) -> io::Result<bool>
     ensures { OnErr result (Loses (R.remaining input.old) (R.remaining input.new)) }
 {
-    let Next::Plan(n) = stream::next_plan(input, plan)? else {
+    let Some(n) = stream::next_plan(input, plan)? else {
         return Ok(false);
     };
     show(out, &plan[..n])?;

@@ -1,5 +1,6 @@
 -- Small lines worked out by the rules themselves: those of P7, what number 7 says of them, and the lines of Plan S's order.
 -- Assumes nothing.
+use Rattle.std.specs.Prelude.{None, Some}
 use mathlib.Core.Path.{◌≡◌, refl}
 use mathlib.Core.Bool.{true, false}
 use mathlib.Core.List.{List, [], ◌∷◌}
@@ -7,7 +8,6 @@ use Prim.Native.Nat.{ℕ}
 use lib.ListN.{get_or, take}
 use Rattle.graph.specs.Counting.{count_of, hit}
 use Rattle.graph.specs.Filing.{naming}
-use Rattle.graph.specs.declared.Link.TheVariants.{To, Nothing}
 use Rattle.lines.specs.Lines.{Lines, standing, standings, all, all_known, well_formed, befores, afters, line_pred, line_succ, holder, machine_of, place_on, position_of}
 use Rattle.lines.specs.Dealing.{at_end, dealt, lines_of}
 
@@ -26,7 +26,7 @@ unfolding well_formed standing standings all all_known count_of hit
 twice = refl
 
 -- a1 is the first of its line: the last of the machine before does not stand before it
-neighbours : (line_pred seventh 0 ≡ To 3) × (line_pred seventh 1 ≡ Nothing) × (line_succ seventh 0 ≡ Nothing) × (line_succ seventh 3 ≡ To 0)
+neighbours : (line_pred seventh 0 ≡ Some 3) × (line_pred seventh 1 ≡ None) × (line_succ seventh 0 ≡ None) × (line_succ seventh 3 ≡ Some 0)
 unfolding befores afters naming
 neighbours = (refl, refl, refl, refl)
 

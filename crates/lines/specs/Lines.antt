@@ -2,11 +2,9 @@
 -- 128, and sixteen lengths say how much of each stretch is used. Lines are refused that miss an activity, repeat one, name one of n or above,
 -- are longer than 128 or use a machine of R or above. "Timing": a line predecessor is the one right before an activity on its line; an
 -- activity's machine is the one whose line holds it.
-use Rattle.std.specs.Prelude.{◌≡◌, Bool, true, ◌&&◌, cond, List, [], ◌∷◌, ◌++◌, ℕ, zero, suc, ◌+◌, ◌≤◌, ◌<◌, eqb, ltb, length, get_or, drop}
+use Rattle.std.specs.Prelude.{◌≡◌, Bool, true, ◌&&◌, cond, List, [], ◌∷◌, ◌++◌, ℕ, zero, suc, ◌+◌, ◌≤◌, ◌<◌, eqb, ltb, length, get_or, drop, Some, None, Option}
 use Rattle.graph.specs.Counting.{count_of}
 use Rattle.graph.specs.Filing.{naming}
-use Rattle.graph.specs.declared.Link.{Link}
-use Rattle.graph.specs.declared.Link.TheVariants.{To, Nothing}
 
 -- the activities of each machine, in turn
 abbrev pub Lines : Type 0
@@ -51,14 +49,14 @@ unfoldable pub afters : Lines → ℕ → List ℕ
 afters [] a = []
 afters (l ∷ lines) a = naming a (rest l) l ++ afters lines a
 
-abbrev pub first_of : List ℕ → Link
-first_of [] = Nothing
-first_of (x ∷ l) = To x
+abbrev pub first_of : List ℕ → Option ℕ
+first_of [] = None
+first_of (x ∷ l) = Some x
 
-abbrev pub line_pred : Lines → ℕ → Link
+abbrev pub line_pred : Lines → ℕ → Option ℕ
 line_pred lines a = first_of (befores lines a)
 
-abbrev pub line_succ : Lines → ℕ → Link
+abbrev pub line_succ : Lines → ℕ → Option ℕ
 line_succ lines a = first_of (afters lines a)
 
 abbrev pub has : ℕ → List ℕ → Bool

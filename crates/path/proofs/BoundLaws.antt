@@ -1,12 +1,11 @@
 -- What later steps lean on: the path names activities, at least one; there is a tail for each activity, and none is long.
+use Rattle.std.specs.Prelude.{None, Option, Some, ℕ}
 use Prim.Native.Nat.{ℕ, zero, suc, ◌+◌, ◌-◌, ◌*◌, ◌^◌, ◌≤◌, ◌<◌}
 use mathlib.Core.Path.{◌≡◌, refl, sym}
 use mathlib.Core.List.{List, [], ◌∷◌}
 use native.Mathlib.Omega.{arith}
 use lib.ListN.{length, get_or}
 use Rattle.graph.specs.Counting.{Below}
-use Rattle.graph.specs.declared.Link.{Link}
-use Rattle.graph.specs.declared.Link.TheVariants.{To, Nothing}
 use Rattle.plan.specs.Problem.{Problem}
 use Rattle.lines.specs.Lines.{Lines}
 use Rattle.path.specs.Placing.{Placing}
@@ -22,30 +21,30 @@ use Rattle.path.proofs.SettingLaws.{Setting, begin, set_all, set_one}
 
 -- ---- the path
 
-walk_below : (n : ℕ) (back : ℕ → Link) → ((a q : ℕ) → a < n → back a ≡ To q → q < n) → (most : ℕ) (link : Link) (path : List ℕ)
-    → ((q : ℕ) → link ≡ To q → q < n) → Below n path → Below n (walk_back back most link path)
+walk_below : (n : ℕ) (back : ℕ → Option ℕ) → ((a q : ℕ) → a < n → back a ≡ Some q → q < n) → (most : ℕ) (link : Option ℕ) (path : List ℕ)
+    → ((q : ℕ) → link ≡ Some q → q < n) → Below n path → Below n (walk_back back most link path)
 unfolding walk_back Below
 walk_below n back h zero link path k b = b
-walk_below n back h (suc most) Nothing path k b = b
-walk_below n back h (suc most) (To a) path k b = walk_below n back h most (back a) (a ∷ path) (λ q e. h a q (k a refl) e) (k a refl, b)
+walk_below n back h (suc most) None path k b = b
+walk_below n back h (suc most) (Some a) path k b = walk_below n back h most (back a) (a ∷ path) (λ q e. h a q (k a refl) e) (k a refl, b)
 
-walk_longer : (back : ℕ → Link) (most : ℕ) (link : Link) (path : List ℕ) → length path ≤ length (walk_back back most link path)
+walk_longer : (back : ℕ → Option ℕ) (most : ℕ) (link : Option ℕ) (path : List ℕ) → length path ≤ length (walk_back back most link path)
 unfolding walk_back
 walk_longer back zero link path = omega arith
-walk_longer back (suc most) Nothing path = omega arith
-walk_longer back (suc most) (To a) path = omega (arith, walk_longer back most (back a) (a ∷ path))
+walk_longer back (suc most) None path = omega arith
+walk_longer back (suc most) (Some a) path = omega (arith, walk_longer back most (back a) (a ∷ path))
 
-walk_some : (back : ℕ → Link) (most : ℕ) (link : Link) (a : ℕ) → 0 < most → link ≡ To a → 0 < length (walk_back back most link [])
+walk_some : (back : ℕ → Option ℕ) (most : ℕ) (link : Option ℕ) (a : ℕ) → 0 < most → link ≡ Some a → 0 < length (walk_back back most link [])
 unfolding walk_back
 walk_some back zero link a h e = absurd (omega arith)
-walk_some back (suc most) Nothing a h e = absurd (nothing_to e)
-walk_some back (suc most) (To b) a h e = omega (arith, walk_longer back most (back b) (b ∷ []))
+walk_some back (suc most) None a h e = absurd (nothing_to e)
+walk_some back (suc most) (Some b) a h e = omega (arith, walk_longer back most (back b) (b ∷ []))
 
-walk_most : (back : ℕ → Link) (most : ℕ) (link : Link) (path : List ℕ) → length (walk_back back most link path) ≤ most + length path
+walk_most : (back : ℕ → Option ℕ) (most : ℕ) (link : Option ℕ) (path : List ℕ) → length (walk_back back most link path) ≤ most + length path
 unfolding walk_back
 walk_most back zero link path = omega arith
-walk_most back (suc most) Nothing path = omega arith
-walk_most back (suc most) (To a) path = omega (arith, walk_most back most (back a) (a ∷ path))
+walk_most back (suc most) None path = omega arith
+walk_most back (suc most) (Some a) path = omega (arith, walk_most back most (back a) (a ∷ path))
 
 module _ {p : Problem} {lines : Lines} {table before machines : List ℕ} {ways : List (List ℕ)} {s : Placing}
     (w : Walkable p lines table before machines ways s) where

@@ -1,4 +1,5 @@
 -- Why a walk back ends: in an order that has each activity after all that it waits for, a step back falls to an earlier place.
+use Rattle.std.specs.Prelude.{Option, Some, ℕ}
 use Prim.Native.Nat.{ℕ, ◌+◌, ◌≤◌, ◌<◌}
 use mathlib.Core.Path.{◌≡◌, refl, sym, subst}
 use mathlib.Core.Bool.{false}
@@ -10,8 +11,6 @@ use Rattle.graph.specs.Counting.{count_of}
 use Rattle.graph.specs.Order.{InTurn}
 use Rattle.graph.specs.Arcs.{Waits}
 use Rattle.graph.specs.Links.{linked}
-use Rattle.graph.specs.declared.Link.{Link}
-use Rattle.graph.specs.declared.Link.TheVariants.{To}
 use Rattle.graph.proofs.CountingLaws.{either, hit-eq, hit-ne, count_of-append}
 use Rattle.graph.proofs.OrderLaws.{turns_map}
 use Rattle.graph.proofs.ShopTheorem.{graph}
@@ -65,7 +64,7 @@ in_turn_falls p lines s turns all most =
       falls = λ a q h e. place_falls p.n (Binds p lines) q a (back_binds p lines s a q h e) s.order [] turns (all a h) refl;
     }
 
-link_counts : (q : ℕ) (l : Link) → l ≡ To q → 0 < count_of q (linked l)
+link_counts : (q : ℕ) (l : Option ℕ) → l ≡ Some q → 0 < count_of q (linked l)
 unfolding count_of
 link_counts q l e = rw e (omega (arith, hit-eq q q refl))
 

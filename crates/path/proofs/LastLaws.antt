@@ -1,4 +1,5 @@
 -- One turn of the loop that looks for the greatest end: what is left, from the last so far, gives the same activity.
+use Rattle.std.specs.Prelude.{Some}
 use Prim.Native.Nat.{ℕ, ◌+◌, ◌≤◌, ◌<◌}
 use mathlib.Core.Path.{◌≡◌, refl, sym, ap, ◌∙◌}
 use mathlib.Core.List.{List, [], ◌∷◌}
@@ -10,7 +11,6 @@ use lib.Dec.{leb}
 use lib.ListN.{length, get_or, drop}
 use lib.Seq.{drop-cons, drop-length}
 use Rattle.graph.specs.Counting.{Below}
-use Rattle.graph.specs.declared.Link.TheVariants.{To}
 use Rattle.graph.proofs.CountingLaws.{below_at}
 use Rattle.path.specs.Path.{last_from, last_to_end}
 use Rattle.path.proofs.NeighbourLaws.{nothing_to}
@@ -20,7 +20,7 @@ pub record Seeking (order ends : List ℕ) (last i : ℕ) : Type 0 where
   pub known : last < length ends
   pub left : last_from ends last (drop i order) ≡ last_from ends (get_or order 0 0) (drop 1 order)
 
-pub starts_with : (order ends : List ℕ) → 0 < length order → last_to_end order ends ≡ To (last_from ends (get_or order 0 0) (drop 1 order))
+pub starts_with : (order ends : List ℕ) → 0 < length order → last_to_end order ends ≡ Some (last_from ends (get_or order 0 0) (drop 1 order))
 starts_with [] ends h = absurd (omega arith)
 starts_with (a ∷ order) ends h = refl
 
@@ -29,13 +29,13 @@ module _ {order ends : List ℕ} (some : 0 < length order) (below : Below (lengt
   begin = record { within = omega arith; known = below_at (length ends) order 0 below some; left = refl }
 
   module _ {last i : ℕ} (k : Seeking order ends last i) where
-    pub found : length order ≤ i → last_to_end order ends ≡ To last
+    pub found : length order ≤ i → last_to_end order ends ≡ Some last
     unfolding last_from
     found h =
         let e : i ≡ length order = omega (arith, k.within) in
         let d : drop i order ≡ [] = ap (λ (j : ℕ). drop j order) e ∙ drop-length order in
         let f : last ≡ last_from ends (get_or order 0 0) (drop 1 order) = ap (last_from ends last) (sym d) ∙ k.left in
-        starts_with order ends some ∙ ap To (sym f)
+        starts_with order ends some ∙ ap Some (sym f)
 
     module _ (h : i < length order) where
       pub next_known : get_or order i 0 < length ends
@@ -64,7 +64,7 @@ from_below n ends a [] h w = h
 from_below n ends a (b ∷ order) h w =
     from_below n ends (cond (leb (get_or ends a 0) (get_or ends b 0)) b a) order (chosen n (leb (get_or ends a 0) (get_or ends b 0)) b a w.0 h) w.1
 
-pub last_below : (n : ℕ) (order ends : List ℕ) → Below n order → (r : ℕ) → last_to_end order ends ≡ To r → r < n
+pub last_below : (n : ℕ) (order ends : List ℕ) → Below n order → (r : ℕ) → last_to_end order ends ≡ Some r → r < n
 unfolding Below
 last_below n [] ends w r e = absurd (nothing_to e)
 last_below n (a ∷ order) ends w r e =

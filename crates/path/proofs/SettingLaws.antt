@@ -1,4 +1,5 @@
 -- One turn of the loop that sets tails: what is left to set, over those set so far, gives all of them; and no tail is long.
+use Rattle.std.specs.Prelude.{Option, ℕ}
 use Prim.Native.Nat.{ℕ, suc, ◌+◌, ◌-◌, ◌*◌, ◌^◌, ◌≤◌, ◌<◌}
 use mathlib.Core.Path.{◌≡◌, refl, sym, ap, ◌∙◌}
 use mathlib.Core.List.{List, ◌++◌}
@@ -7,7 +8,6 @@ use lib.ListN.{length, get_or, set, replicate, length-set, length-replicate, get
 use lib.Seq.{get_or-set_same, get_or-set_other}
 use Rattle.graph.specs.Links.{linked, link_of}
 use Rattle.graph.specs.Shop.{greatest}
-use Rattle.graph.specs.declared.Link.{Link}
 use Rattle.graph.proofs.CountingLaws.{either, below_at}
 use Rattle.graph.proofs.NamingLaws.{zeros_at}
 use Rattle.graph.proofs.ShopTheorem.{greatest-least}
@@ -112,4 +112,4 @@ module _ {p : Problem} {lines : Lines} {table links : List ℕ} {s : Placing} (w
           → Setting p lines s (set tail (get_or s.order (i - 1) 0) x) (i - 1)
       again e =
           let a = get_or s.order (i - 1) 0 in
-          set_one (e ∙ ap (λ (l : Link). greatest (after s tail) (linked l ++ (linked (task_succ p a) ++ p.waiting a)) 0) (w.succs a known))
+          set_one (e ∙ ap (λ (l : Option ℕ). greatest (after s tail) (linked l ++ (linked (task_succ p a) ++ p.waiting a)) 0) (w.succs a known))

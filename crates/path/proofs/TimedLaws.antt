@@ -1,10 +1,9 @@
 -- What the path and the tails ask is so of an accepted problem and of lines that were timed without contradiction.
+use Rattle.std.specs.Prelude.{None, Option, Some, unwrap_or}
 use Prim.Native.Nat.{ℕ, ◌+◌, ◌^◌, ◌≤◌, ◌<◌}
 use mathlib.Core.Path.{◌≡◌, refl}
 use mathlib.Core.Bool.{false}
 use mathlib.Core.List.{List}
-use mathlib.Core.Option
-use mathlib.Core.Option.{Option, none, some}
 use native.Mathlib.Omega.{arith}
 use borrow.Author.Tests.{ltb-false}
 use lib.ListN.{length, get_or}
@@ -32,9 +31,9 @@ pub record Spanned (n : ℕ) (span : ℕ → ℕ) (starts ends : List ℕ) : Typ
   pub spans : (a : ℕ) → a < n → get_or ends a 0 ≡ get_or starts a 0 + span a
   pub early : (a : ℕ) → get_or ends a 0 < 2 ^ 62
 
-either_short : (o : Option ℕ) (own : ℕ) → ((x : ℕ) → o ≡ some x → x ≤ longest) → own ≤ longest → Option.get_or o own ≤ longest
-either_short none own h k = k
-either_short (some x) own h k = h x refl
+either_short : (o : Option ℕ) (own : ℕ) → ((x : ℕ) → o ≡ Some x → x ≤ longest) → own ≤ longest → unwrap_or o own ≤ longest
+either_short None own h k = k
+either_short (Some x) own h k = h x refl
 
 module _ (p : Problem) (g : Genes) (ok : Accepted p g) (lines : Lines) (w : WellFormed p.n p.machines lines) where
   -- No span is longer than three of the longest times.
@@ -70,7 +69,7 @@ module _ (p : Problem) (g : Genes) (ok : Accepted p g) (lines : Lines) (w : Well
               machines_few = ok.machines.1;
               transports = transports;
             };
-            some = ok.activities.0;
+            Some = ok.activities.0;
             ordered = whole;
             started = e.started;
             ended = e.ended;

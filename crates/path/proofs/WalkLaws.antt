@@ -1,4 +1,5 @@
 -- One turn of the walk back: what is left to walk, before the path so far, gives the whole path; and the code's step back is the rule's.
+use Rattle.std.specs.Prelude.{None, Option, Some, ℕ}
 use Prim.Native.Nat.{ℕ, zero, suc, ◌+◌, ◌-◌, ◌≤◌, ◌<◌}
 use mathlib.Core.Path.{◌≡◌, refl, sym, ap, ◌∙◌}
 use mathlib.Core.Bool.{Bool}
@@ -9,8 +10,6 @@ use lib.ListN.{length, get_or, set, take, drop, length-set}
 use lib.Seq.{drop-cons, drop-length, get_or-set_same, drop-set-lt, take-set-le, take-take}
 use Rattle.graph.specs.Counting.{Below}
 use Rattle.graph.specs.Links.{linked, link_of}
-use Rattle.graph.specs.declared.Link.{Link}
-use Rattle.graph.specs.declared.Link.TheVariants.{To, Nothing}
 use Rattle.graph.proofs.CountingLaws.{below_of}
 use Rattle.graph.proofs.LinkedLaws.{link_below}
 use Rattle.plan.specs.Problem.{Problem}
@@ -70,15 +69,15 @@ module _ {p : Problem} {lines : Lines} {table before machines : List ℕ} {ways 
     machine_low : (b : ℕ) → b < p.n → get_or machines b 0 < p.machines
     machine_low b k = omega (arith, w.shown.owned b k, w.shown.known b k)
 
-    from_low : (l : Link) → ((b : ℕ) → l ≡ To b → b < p.n) → machine_before machines a l < p.machines
-    from_low (To b) k = machine_low b (k b refl)
-    from_low Nothing k = machine_low a h
+    from_low : (l : Option ℕ) → ((b : ℕ) → l ≡ Some b → b < p.n) → machine_before machines a l < p.machines
+    from_low (Some b) k = machine_low b (k b refl)
+    from_low None k = machine_low a h
 
     pub own_known : get_or machines a 0 < 16
     own_known = omega (arith, machine_low a h, w.shown.machines_few)
 
     -- The step before, as it was looked up.
-    module _ {task : Link} (et : task ≡ task_pred p a) where
+    module _ {task : Option ℕ} (et : task ≡ task_pred p a) where
       pub task_below : (n : ℕ) → n ≡ p.n → Below n (linked task)
       task_below n e = rw (et, e) (pred_below p p.n a h)
 
@@ -87,7 +86,7 @@ module _ {p : Problem} {lines : Lines} {table before machines : List ℕ} {ways 
         from_known =
             omega (arith, ef, ap (machine_before machines a) et, from_low (task_pred p a) (λ b e. omega (arith, pred_lower p a b e)), w.shown.machines_few)
 
-        way_is : (b : ℕ) → task ≡ To b → between ways from (get_or machines a 0) ≡ way_to p lines b a
+        way_is : (b : ℕ) → task ≡ Some b → between ways from (get_or machines a 0) ≡ way_to p lines b a
         way_is b e =
             let k : b < p.n = omega (arith, pred_lower p a b (sym et ∙ e)) in
             let f : from ≡ machine_of lines b = ef ∙ ap (machine_before machines a) e ∙ w.shown.owned b k in
@@ -95,7 +94,7 @@ module _ {p : Problem} {lines : Lines} {table before machines : List ℕ} {ways 
             (between_at p.transport p.machines p.machines (machine_of lines b) (machine_of lines a) (w.shown.known b k) w.shown.machines_few (w.shown.known a h) w.shown.machines_few)
 
         -- The step back that the code takes is the rule's.
-        pub back_is : {way : ℕ} {r : Link} → way ≡ between ways from (get_or machines a 0)
+        pub back_is : {way : ℕ} {r : Option ℕ} → way ≡ between ways from (get_or machines a 0)
             → r ≡ or_else (meeting (λ b. eqb (get_or s.ends b 0) (get_or s.starts a 0)) (link_of before a)) (or_else (meeting (λ b. eqb (get_or s.ends b 0 + way) (get_or s.starts a 0)) task) (first_meeting (λ b. eqb (get_or s.ends b 0) (get_or s.starts a 0)) (p.predecessors a)))
             → r ≡ back_of p lines s a
         back_is {way} ew e =
@@ -110,20 +109,20 @@ module _ {p : Problem} {lines : Lines} {table before machines : List ℕ} {ways 
 pub record Walking (p : Problem) (lines : Lines) (s : Placing) (rank : ℕ → ℕ) (path : List ℕ) (a at : ℕ) : Type 0 where
   pub known : a < p.n
   pub high : rank a < at
-  pub left : walk_back (back_of p lines s) at (To a) (drop at path) ≡ critical_path p lines s
+  pub left : walk_back (back_of p lines s) at (Some a) (drop at path) ≡ critical_path p lines s
 
-walk_none : (back : ℕ → Link) (most : ℕ) (path : List ℕ) → walk_back back most Nothing path ≡ path
+walk_none : (back : ℕ → Option ℕ) (most : ℕ) (path : List ℕ) → walk_back back most None path ≡ path
 unfolding walk_back
 walk_none back zero path = refl
 walk_none back (suc most) path = refl
 
-walk_one : (back : ℕ → Link) (most less a : ℕ) (path : List ℕ) → most ≡ suc less → walk_back back most (To a) path ≡ walk_back back less (back a) (a ∷ path)
+walk_one : (back : ℕ → Option ℕ) (most less a : ℕ) (path : List ℕ) → most ≡ suc less → walk_back back most (Some a) path ≡ walk_back back less (back a) (a ∷ path)
 unfolding walk_back
 walk_one back most less a path e = rw e
 
 module _ {p : Problem} {lines : Lines} {table before machines : List ℕ} {ways : List (List ℕ)} {s : Placing}
     (w : Walkable p lines table before machines ways s) where
-  pub begin : (path : List ℕ) (a : ℕ) → length path ≡ length s.order → last_to_end s.order s.ends ≡ To a
+  pub begin : (path : List ℕ) (a : ℕ) → length path ≡ length s.order → last_to_end s.order s.ends ≡ Some a
       → Walking p lines s w.falling.rank path a (length path)
   begin path a e l =
       let k : a < p.n = last_below p.n s.order s.ends w.activities a l in
@@ -137,10 +136,10 @@ module _ {p : Problem} {lines : Lines} {table before machines : List ℕ} {ways 
         ∙ sym (walk_one (back_of p lines s) at (at - 1) a (drop at path) (omega (arith, k.high)))
         ∙ k.left
 
-    pub stops : Nothing ≡ back_of p lines s a → drop (at - 1) (set path (at - 1) a) ≡ critical_path p lines s
+    pub stops : None ≡ back_of p lines s a → drop (at - 1) (set path (at - 1) a) ≡ critical_path p lines s
     stops e = sym (walk_none (back_of p lines s) (at - 1) (drop (at - 1) (set path (at - 1) a))) ∙ (rw (sym e) at turned)
 
-    pub goes : (b : ℕ) → To b ≡ back_of p lines s a → Walking p lines s w.falling.rank (set path (at - 1) a) b (at - 1)
+    pub goes : (b : ℕ) → Some b ≡ back_of p lines s a → Walking p lines s w.falling.rank (set path (at - 1) a) b (at - 1)
     goes b e =
         record {
           known = arc_known w b a (back_binds p lines s a b k.known (sym e));

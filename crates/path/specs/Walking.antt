@@ -1,8 +1,7 @@
 -- What the walk back looks things up in, and why it comes to an end.
-use Rattle.std.specs.Prelude.{ℕ, ◌^◌, ◌≤◌, ◌<◌, ◌≡◌, List, length, get_or}
+use Rattle.std.specs.Prelude.{ℕ, ◌^◌, ◌≤◌, ◌<◌, ◌≡◌, List, length, get_or, Some}
 use Rattle.graph.specs.Counting.{Below}
 use Rattle.graph.specs.Links.{link_of}
-use Rattle.graph.specs.declared.Link.TheVariants.{To}
 use Rattle.plan.specs.Problem.{Problem}
 use Rattle.plan.specs.Found.{transports_of}
 use Rattle.tables.specs.Tabled.{Tabled}
@@ -15,7 +14,7 @@ use Rattle.path.specs.Path.{back_of}
 pub record Falling (p : Problem) (lines : Lines) (s : Placing) : Type 0 where
   pub rank : ℕ → ℕ
   pub low : (a : ℕ) → a < p.n → rank a < p.n
-  pub falls : (a q : ℕ) → a < p.n → back_of p lines s a ≡ To q → rank q < rank a
+  pub falls : (a q : ℕ) → a < p.n → back_of p lines s a ≡ Some q → rank q < rank a
 
 -- The table holds some problem that has the activity, which names activities only, and there is an end for each of them.
 pub record Backed (table ends : List ℕ) (a : ℕ) : Type 0 where

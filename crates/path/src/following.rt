@@ -10,7 +10,6 @@ ghost use Rattle.path.specs.Placing.{placed};
 ghost use Rattle.path.specs.Tails.{tails};
 ghost use Rattle.path.specs.Following.{Addable, Freed, Followed, Tailed};
 
-use graph::Link;
 
 // Sets all to 0.
 fn clear(tail: &mut [u64])
@@ -49,11 +48,11 @@ pub fn after_all(list: &[usize], starts: &[u64], ends: &[u64], tail: &[u64], fir
 }
 
 // The greater of a time and of the linked one's span plus tail.
-pub fn after_link(link: Link, starts: &[u64], ends: &[u64], tail: &[u64], first: u64) -> u64
+pub fn after_link(link: Option<usize>, starts: &[u64], ends: &[u64], tail: &[u64], first: u64) -> u64
     requires { Below (length tail.now) (linked link) × Addable (length tail.now) starts.now ends.now tail.now }
     ensures { result ≡ greatest (λ x. get_or ends.now x 0 - get_or starts.now x 0 + get_or tail.now x 0) (linked link) first }
 {
-    let Link::To(x) = link else {
+    let Some(x) = link else {
         return first;
     };
     let after = span_and_tail(starts, ends, tail, x);

@@ -3,10 +3,9 @@
 
 mod following;
 
-ghost use Rattle.std.specs.Prelude.{◌≡◌, ℕ, ◌+◌, ◌^◌, ◌<◌, ◌≤◌, eqb, length, get_or, take, drop};
+ghost use Rattle.std.specs.Prelude.{◌≡◌, ℕ, ◌+◌, ◌^◌, ◌<◌, ◌≤◌, eqb, length, get_or, take, drop, Some};
 ghost use Rattle.graph.specs.Counting.{Below};
 ghost use Rattle.graph.specs.Links.{linked, link_of};
-ghost use Rattle.graph.specs.declared.Link.TheVariants.{To};
 ghost use Rattle.plan.specs.Problem.{Problem};
 ghost use Rattle.tables.specs.Tabled.{Tabled};
 ghost use Rattle.lines.specs.Lines.{Lines};
@@ -15,12 +14,11 @@ ghost use Rattle.path.specs.Path.{last_to_end, or_else, meeting, first_meeting, 
 ghost use Rattle.path.specs.Walking.{Backed, Walkable, Walked};
 
 pub use following::{after_all, after_link, tails};
-use graph::Link;
 
 // The activity with the greatest end, the latest in the order among equals.
 fn last_to_end(order: &[usize], ends: &[u64]) -> usize
     requires { (0 < length order.now) × Below (length ends.now) order.now }
-    ensures { last_to_end order.now ends.now ≡ To result }
+    ensures { last_to_end order.now ends.now ≡ Some result }
 {
     let mut last = order[0];
     let mut i = 1;
@@ -35,21 +33,21 @@ fn last_to_end(order: &[usize], ends: &[u64]) -> usize
 }
 
 // The linked activity, if a way after its end is this start.
-fn meeting(link: Link, ends: &[u64], way: u64, start: u64) -> Link
+fn meeting(link: Option<usize>, ends: &[u64], way: u64, start: u64) -> Option<usize>
     requires { Below (length ends.now) (linked link) × ((b : ℕ) → get_or ends.now b 0 < 2 ^ 62) × (way < 2 ^ 32) }
     ensures { result ≡ meeting (λ b. eqb (get_or ends.now b 0 + way) start) link }
 {
-    let Link::To(b) = link else {
-        return Link::Nothing;
+    let Some(b) = link else {
+        return None;
     };
     if ends[b] + way == start {
-        return Link::To(b);
+        return Some(b);
     }
-    Link::Nothing
+    None
 }
 
 // The first listed activity that ends at this start.
-fn first_meeting(named: &[usize], ends: &[u64], start: u64) -> Link
+fn first_meeting(named: &[usize], ends: &[u64], start: u64) -> Option<usize>
     requires { Below (length ends.now) named.now }
     ensures { result ≡ first_meeting (λ b. eqb (get_or ends.now b 0) start) named.now }
 {
@@ -57,23 +55,23 @@ fn first_meeting(named: &[usize], ends: &[u64], start: u64) -> Link
     while i < named.len() {
         let b = named[i];
         if ends[b] == start {
-            return Link::To(b);
+            return Some(b);
         }
         i += 1;
     }
-    Link::Nothing
+    None
 }
 
 // Where the path goes back to from an activity that its line does not hold back: the step before it, if a way after its end is this start,
 // else the first listed predecessor that ends there.
-fn back_by_plan(table: &[usize], task: Link, ends: &[u64], a: usize, way: u64, start: u64) -> Link
+fn back_by_plan(table: &[usize], task: Option<usize>, ends: &[u64], a: usize, way: u64, start: u64) -> Option<usize>
     requires { Backed table.now ends.now a × Below (length ends.now) (linked task) × ((b : ℕ) → get_or ends.now b 0 < 2 ^ 62) × (way < 2 ^ 32) }
     ensures { (p : Problem) → Tabled p table.now → a < p.n → p.n ≤ 128 → result ≡ or_else (meeting (λ b. eqb (get_or ends.now b 0 + way) start) task) (first_meeting (λ b. eqb (get_or ends.now b 0) start) (p.predecessors a)) }
 {
-    let Link::To(b) = meeting(task, ends, way, start) else {
+    let Some(b) = meeting(task, ends, way, start) else {
         return first_meeting(tables::named_by(table, a), ends, start);
     };
-    Link::To(b)
+    Some(b)
 }
 
 // Where the path goes back to: the line predecessor if it ends at this start, else what task order and predecessors give. `task` is the
@@ -81,30 +79,30 @@ fn back_by_plan(table: &[usize], task: Link, ends: &[u64], a: usize, way: u64, s
 fn back_of(
     table: &[usize],
     before: &[usize],
-    task: Link,
+    task: Option<usize>,
     starts: &[u64],
     ends: &[u64],
     a: usize,
     way: u64,
-) -> Link
+) -> Option<usize>
     requires backed { Backed table.now ends.now a × Below (length ends.now) (linked task) × ((b : ℕ) → get_or ends.now b 0 < 2 ^ 62) × (way < 2 ^ 32) }
     requires a_in_bounds { (a < length starts.now) × (length before.now ≡ length ends.now) × (a < length before.now) }
     ensures { (p : Problem) → Tabled p table.now → a < p.n → p.n ≤ 128 → result ≡ or_else (meeting (λ b. eqb (get_or ends.now b 0) (get_or starts.now a 0)) (link_of before.now a)) (or_else (meeting (λ b. eqb (get_or ends.now b 0 + way) (get_or starts.now a 0)) task) (first_meeting (λ b. eqb (get_or ends.now b 0) (get_or starts.now a 0)) (p.predecessors a))) }
 {
     let start = starts[a];
     let line = graph::link_of(before, a);
-    let Link::To(b) = meeting(line, ends, 0, start) else {
+    let Some(b) = meeting(line, ends, 0, start) else {
         return back_by_plan(table, task, ends, a, way, start);
     };
-    Link::To(b)
+    Some(b)
 }
 
 // The machine that an activity comes from: that of the step before it, its own where there is none.
-fn machine_before(task: Link, machines: &[usize], a: usize) -> usize
+fn machine_before(task: Option<usize>, machines: &[usize], a: usize) -> usize
     requires { Below (length machines.now) (linked task) × (a < length machines.now) }
     ensures { result ≡ machine_before machines.now a task }
 {
-    let Link::To(b) = task else {
+    let Some(b) = task else {
         return machines[a];
     };
     machines[b]
@@ -142,7 +140,7 @@ pub fn critical_path(
         let from = machine_before(task, machines, a);
         let to = machines[a];
         let way = wide(ways[from][to]);
-        let Link::To(b) = back_of(table, before, task, starts, ends, a, way) else {
+        let Some(b) = back_of(table, before, task, starts, ends, a, way) else {
             break at;
         };
         a = b;

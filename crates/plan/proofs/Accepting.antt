@@ -1,11 +1,11 @@
 -- What accepting an input means: its words lie as `Laid` says, its numbers are small enough to reckon with, no input is longer than 65,204
 -- bytes, and the problem and the genes that it gives are as `Accepted` promises.
+use Rattle.std.specs.Prelude.{Some}
 use Prim.Native.Nat.{ℕ, ◌+◌, ◌*◌, ◌-◌, ◌^◌, ◌≤◌, ◌<◌}
 use mathlib.Core.Path.{◌≡◌, subst}
 use mathlib.Core.Logic.{⊎_elim}
 use mathlib.Core.Bool.{◌&&◌}
 use mathlib.Core.List.{List}
-use mathlib.Core.Option.{some}
 use native.Mathlib.Omega.{arith}
 use native.Mathlib.Nat.{suc-mul, mul-le-mul_right}
 use native.Mathlib.Numerals.{add-one}
@@ -100,7 +100,7 @@ module _ (ws : List ℕ) (z : Layout) (l : Laid ws z) where
   nothing = total_none ws 0 (z.at.tasks + 1) (omega arith)
 
   -- A word of Assignment that is not -1 is a machine.
-  machine : (a m : ℕ) → assigned_of ws z a ≡ some m → m < z.machines
+  machine : (a m : ℕ) → assigned_of ws z a ≡ Some m → m < z.machines
   machine a m e =
       let w : ℕ = cell ws z.at.assignment 1 a 0 in
       let u = some_if_some (ltb a (count ws z z.at.assignment) && ltb w (2 ^ 32 - 1)) w m e in

@@ -1,9 +1,9 @@
 -- Laws of the lookups that make a problem of words: sums and owners of task entries, the pairs of Candidates and Predecessors, Setups entries.
+use Rattle.std.specs.Prelude.{Some}
 use Prim.Native.Nat.{ℕ, zero, suc, ◌+◌, ◌*◌, ◌-◌, ◌≤◌, ◌<◌}
 use mathlib.Core.Path.{◌≡◌, refl, sym, ◌∙◌, ap}
 use mathlib.Core.Bool.{Bool, true, false, cond, ◌&&◌}
 use mathlib.Core.List.{List}
-use mathlib.Core.Option.{some}
 use native.Mathlib.Omega.{arith}
 use borrow.Author.Tests.{ltb-true, ltb-false, eqb-true, eqb-false}
 use lib.Dec.{eqb, ltb}
@@ -16,7 +16,7 @@ use Rattle.plan.specs.Input.{some_if, seconds, firsts, change_from, words_from, 
 
 -- ---- what stands where a test holds
 
-pub some_if_some : {A : Type 0} (b : Bool) (x y : A) → some_if b x ≡ some y → (b ≡ true) × (x ≡ y)
+pub some_if_some : {A : Type 0} (b : Bool) (x y : A) → some_if b x ≡ Some y → (b ≡ true) × (x ≡ y)
 some_if_some true x y e = (refl, cc)
 some_if_some false x y e = let z : ◌≡◌ {A = ℕ} 0 1 = cc in absurd (omega arith)
 
@@ -155,7 +155,7 @@ module _ (ws : List ℕ) where
 -- ---- Setups entries, and words one after the other
 
 pub change_below : (ws : List ℕ) (b n at m previous own x : ℕ) → ((e : ℕ) → e < n → get_or ws (at + 4 * e + 3) 0 ≤ b)
-    → change_from ws n at m previous own ≡ some x → x ≤ b
+    → change_from ws n at m previous own ≡ Some x → x ≤ b
 unfolding change_from
 change_below ws b zero at m previous own x h e = let z : ◌≡◌ {A = ℕ} 0 1 = cc in absurd (omega arith)
 change_below ws b (suc n) at m previous own x h e =
@@ -165,8 +165,8 @@ change_below ws b (suc n) at m previous own x h e =
     shifted : (i : ℕ) → i < n → get_or ws (at + 4 + 4 * i + 3) 0 ≤ b
     shifted i l = let p : at + 4 + 4 * i + 3 ≡ at + 4 * suc i + 3 = omega arith in rw p (h (suc i) (omega arith))
 
-    by_test : (t : Bool) → cond t (some (get_or ws (at + 3) 0)) (change_from ws n (at + 4) m previous own) ≡ some x
-        → (change_from ws n (at + 4) m previous own ≡ some x → x ≤ b) → x ≤ b
+    by_test : (t : Bool) → cond t (Some (get_or ws (at + 3) 0)) (change_from ws n (at + 4) m previous own) ≡ Some x
+        → (change_from ws n (at + 4) m previous own ≡ Some x → x ≤ b) → x ≤ b
     by_test true e rest =
         let p : at + 4 * 0 + 3 ≡ at + 3 = omega arith in
         let w : get_or ws (at + 3) 0 ≡ x = cc in

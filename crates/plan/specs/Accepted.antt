@@ -1,7 +1,6 @@
 -- Document 01, "The input, word by word": what an accepted input promises about the problem and the genes that it means. Every later part
 -- leans on this record and on nothing else of the reader.
-use Rattle.std.specs.Prelude.{ℕ, ◌+◌, ◌≤◌, ◌<◌, ◌≡◌, List, length}
-use Rattle.std.proofs.Math.Option.{some}
+use Rattle.std.specs.Prelude.{ℕ, ◌+◌, ◌≤◌, ◌<◌, ◌≡◌, List, length, Some}
 use Rattle.graph.specs.Counting.{count_of, Below}
 use Rattle.plan.specs.Problem.{Problem, Genes}
 
@@ -28,7 +27,7 @@ pub record Accepted (p : Problem) (g : Genes) : Type 0 where
   pub process : (a m : ℕ) → a < p.n → m < p.machines → p.process a m ≤ longest
   pub teardown : (a m : ℕ) → a < p.n → m < p.machines → p.teardown a m ≤ longest
   pub transport : (l m : ℕ) → l < p.machines → m < p.machines → p.transport l m ≤ longest
-  pub change : (m before own x : ℕ) → p.change m before own ≡ some x → x ≤ longest
+  pub change : (m before own x : ℕ) → p.change m before own ≡ Some x → x ≤ longest
   -- candidates are machines, none twice; who names whom, seen from both ends
   pub candidates : (a : ℕ) → Below p.machines (p.candidates a)
   pub once : (a m : ℕ) → count_of m (p.candidates a) ≤ 1
@@ -38,4 +37,4 @@ pub record Accepted (p : Problem) (g : Genes) : Type 0 where
   -- the search and the genes
   pub limit : p.limit ≤ 1000
   pub order : length g.order ≤ 256
-  pub assigned : (a m : ℕ) → g.assigned a ≡ some m → m < p.machines
+  pub assigned : (a m : ℕ) → g.assigned a ≡ Some m → m < p.machines

@@ -1,6 +1,5 @@
 -- What the lookups answer, for the cases of their enums and the numbers of a layout.
-use Rattle.std.specs.Prelude.{ℕ, zero, suc, ◌≤◌, ◌<◌, ◌^◌, ◌≡◌, true, List, [], get_or, set, replicate, ℤ}
-use Rattle.std.proofs.Math.Option.{Option, none, some}
+use Rattle.std.specs.Prelude.{ℕ, zero, suc, ◌≤◌, ◌<◌, ◌^◌, ◌≡◌, true, List, [], get_or, set, replicate, ℤ, Some, None, Option}
 use Rattle.grammar.specs.Ranges.{in_range}
 use Rattle.grammar.specs.declared.Kind.TheVariants.{WeightHigh}
 use Rattle.reader.specs.Reading.{nothing_known}
@@ -9,10 +8,6 @@ use Rattle.plan.specs.Problem.{Problem}
 use Rattle.plan.specs.Input.{cell}
 use Rattle.plan.specs.declared.Layout.{Layout}
 use Rattle.plan.specs.declared.Times.{Times}
-use Rattle.plan.specs.declared.Due.{Due}
-use Rattle.plan.specs.declared.Due.TheVariants.{At, Never}
-use Rattle.plan.specs.declared.Machine.{Machine}
-use Rattle.plan.specs.declared.Machine.TheVariants.{On, Nothing}
 
 -- The counts and section starts of a reading, by name.
 abbrev pub layout_of : Reading → Layout
@@ -55,15 +50,6 @@ pub record Placed (z : Layout) : Type 0 where
 -- The weight's two words are in their range: no NaN, and from 0 to 1.
 abbrev pub Weighed : (words : List ℕ) → Layout → Type 0
 Weighed ws z = in_range WeightHigh nothing_known (cell ws z.at.search 3 0 0) (cell ws z.at.search 3 0 1) ≡ true
-
--- The cases of a deadline and of a machine.
-abbrev pub due_of : Option ℤ → Due
-due_of none = Never
-due_of (some d) = At d
-
-abbrev pub machine_or : Option ℕ → Machine
-machine_or none = Nothing
-machine_or (some m) = On m
 
 -- An activity's three times on a machine.
 abbrev pub times_of : Problem → (activity machine : ℕ) → Times

@@ -1,6 +1,5 @@
 -- Document 01, "The input, word by word": the problem and the genes that the words of an accepted input mean.
-use Rattle.std.specs.Prelude.{ℕ, zero, suc, ◌+◌, ◌*◌, ◌-◌, ◌^◌, max, Bool, true, false, cond, ◌&&◌, ◌||◌, List, [], ◌∷◌, eqb, ltb, leb, get_or, ℤ}
-use Rattle.std.proofs.Math.Option.{Option, none, some}
+use Rattle.std.specs.Prelude.{ℕ, zero, suc, ◌+◌, ◌*◌, ◌-◌, ◌^◌, max, Bool, true, false, cond, ◌&&◌, ◌||◌, List, [], ◌∷◌, eqb, ltb, leb, get_or, ℤ, Some, None, Option}
 use Rattle.std.specs.Float.Ieee.{of_bits}
 use Rattle.std.specs.Float.{binary64}
 use Rattle.words.specs.Signed.{signed_word, clamp}
@@ -14,9 +13,9 @@ abbrev pub cell : (words : List ℕ) → (at width e f : ℕ) → ℕ
 cell ws at width e f = get_or ws (at + 1 + width * e + f) 0
 
 -- What stands in one place where a test holds.
-abbrev pub some_if {ℓ} : {A : Type ℓ} → Bool → A → Option A
-some_if true x = some x
-some_if false x = none
+abbrev pub some_if : {A : Type 0} → Bool → A → Option A
+some_if true x = Some x
+some_if false x = None
 
 -- Of n pairs from `at` on: the second words of those whose first word is a, and the first words of those whose second word is b, as listed.
 unfoldable pub seconds : (words : List ℕ) → (n at a : ℕ) → List ℕ
@@ -29,10 +28,10 @@ firsts ws (suc n) at b = cons_if (eqb (get_or ws (at + 1) 0) b) (get_or ws at 0)
 
 -- Of n Setups entries from `at` on, the setup of the first for the triple.
 unfoldable pub change_from : (words : List ℕ) → (n at machine previous category : ℕ) → Option ℕ
-change_from ws zero at m b c = none
+change_from ws zero at m b c = None
 change_from ws (suc n) at m b c =
     cond (eqb (get_or ws at 0) m && (eqb (get_or ws (at + 1) 0) b && eqb (get_or ws (at + 2) 0) c))
-    (some (get_or ws (at + 3) 0))
+    (Some (get_or ws (at + 3) 0))
     (change_from ws n (at + 4) m b c)
 
 -- n words from `at` on.

@@ -1,7 +1,6 @@
 -- Document 01, "The input, word by word": what a plan says, in the workshop's words. A problem is numbers and functions; the words that gave
 -- them are no part of it, and no later rule knows of them. An opening time for each machine (L2) would be one more function.
-use Rattle.std.specs.Prelude.{ℕ, List, ℤ, Float}
-use Rattle.std.proofs.Math.Option.{Option}
+use Rattle.std.specs.Prelude.{ℕ, List, ℤ, Float, Option}
 
 pub record Problem : Type 0 where
   -- how many tasks, activities, machines

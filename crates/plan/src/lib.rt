@@ -1,11 +1,10 @@
 // What an accepted plan says, looked up in the stored words. Each answer is the function of the same name of `Problem` in specs/.
 #![tactic(auto)]
 
-ghost use Rattle.std.specs.Prelude.{◌≡◌, ℕ, ◌+◌, ◌*◌, ◌-◌, ◌<◌, ◌≤◌, ◌^◌, length, get_or};
-ghost use Rattle.std.proofs.Math.Option.{Option};
+ghost use Rattle.std.specs.Prelude.{◌≡◌, ℕ, ◌+◌, ◌*◌, ◌-◌, ◌<◌, ◌≤◌, ◌^◌, length, get_or, Option};
 ghost use Rattle.words.specs.Words.{words};
 ghost use Rattle.plan.specs.Input.{cell, release_in, problem_of, genes_of};
-ghost use Rattle.plan.specs.Found.{Placed, Weighed, layout_of, due_of, machine_or, times_of, row_to, transports_of};
+ghost use Rattle.plan.specs.Found.{Placed, Weighed, layout_of, times_of, row_to, transports_of};
 
 use reader::Reading;
 
@@ -39,18 +38,6 @@ pub struct Times {
     pub setup: u32,
     pub process: u32,
     pub teardown: u32,
-}
-
-#[derive(Clone, Copy)]
-pub enum Due {
-    At(i32),
-    Never,
-}
-
-#[derive(Clone, Copy)]
-pub enum Machine {
-    On(usize),
-    Nothing,
 }
 
 // The layout of what was read, its numbers one by one.
@@ -101,16 +88,16 @@ pub fn steps(s: &[u8], z: Layout, t: usize) -> u32
     cell_at(s, z.at.tasks, 5, t, 4)
 }
 
-pub fn deadline(s: &[u8], z: Layout, t: usize) -> Due
+pub fn deadline(s: &[u8], z: Layout, t: usize) -> Option<i32>
     requires { Placed z × (t < 2 ^ 32) }
-    ensures { result ≡ due_of ((problem_of (words s.now) z).deadline t) }
+    ensures { result ≡ (problem_of (words s.now) z).deadline t }
 {
     let flag = cell_at(s, z.at.tasks, 5, t, 2);
     if flag != 1 {
-        return Due::Never;
+        return None;
     }
     let word = cell_at(s, z.at.tasks, 5, t, 3);
-    Due::At(words::signed_word(word))
+    Some(words::signed_word(word))
 }
 
 // An activity's times on a machine.
@@ -147,20 +134,20 @@ pub fn limit(s: &[u8], z: Layout) -> u32
 }
 
 // The machine that the genes give an activity.
-pub fn assigned(s: &[u8], z: Layout, a: usize) -> Machine
+pub fn assigned(s: &[u8], z: Layout, a: usize) -> Option<usize>
     requires { Placed z × (a < 2 ^ 32) }
-    ensures { result ≡ machine_or ((genes_of (words s.now) z).assigned a) }
+    ensures { result ≡ (genes_of (words s.now) z).assigned a }
 {
     let at = z.at.assignment;
     let count = words::word(s, at) as usize;
     if count <= a {
-        return Machine::Nothing;
+        return None;
     }
     let m = cell_at(s, at, 1, a, 0);
     if m == 0xFFFF_FFFF {
-        return Machine::Nothing;
+        return None;
     }
-    Machine::On(m as usize)
+    Some(m as usize)
 }
 
 // The release of an activity of a task: the greater of both, a negative one as 0.

@@ -1,4 +1,5 @@
 -- P7: lines that contradict, read from the bytes of the plan and timed, by computing; and starts of 0, which meet every bound all the same.
+use Rattle.std.specs.Prelude.{None, Option, Some, ℕ}
 use Prim.Native.Nat.{ℕ, zero, suc, ◌+◌, ◌≤◌, ◌<◌}
 use mathlib.Core.Path.{◌≡◌, refl, sym, ap, ◌∙◌}
 use mathlib.Core.List.{List, []}
@@ -8,8 +9,6 @@ use Rattle.graph.specs.Counting.{count_of}
 use Rattle.graph.specs.Counting as counting
 use Rattle.graph.specs.Filing as filing
 use Rattle.graph.specs.Order as order
-use Rattle.graph.specs.declared.Link.{Link}
-use Rattle.graph.specs.declared.Link.TheVariants.{To, Nothing}
 use Rattle.grammar.specs.Rules as rules
 use Rattle.reader.specs.Reading as reading
 use Rattle.plan.specs.Problem.{Problem}
@@ -36,9 +35,9 @@ abbrev zeros : Problem
 zeros = problem_in bytes_of_zeros (taken_in bytes_of_zeros)
 
 -- whom a link names; 0 where it names nobody
-abbrev the : Link → ℕ
-the (To q) = q
-the Nothing = 0
+abbrev the : Option ℕ → ℕ
+the (Some q) = q
+the None = 0
 
 -- Of one of the four activities: it is released at 0 and names nobody, and those before it take no time, nor does the way from there.
 record Idle (a : ℕ) : Type 0 where

@@ -1,8 +1,7 @@
 -- Document 01, "Plans to hold on the card board": P1 to P8 as one table, each said of the rules themselves.
 -- Its "frauds to try": refusing everything fails at P3, and at demand 3 for timing; one fixed answer at P2 with P3, which are told apart by their
 -- steps alone; never moving at P3; one true step and idle ones after at P2 with P3, since the first step finds nothing better and the second does.
-use Rattle.std.specs.Prelude.{ℕ, ◌≡◌, ◌⊎◌, true, false, List, [], ◌∷◌, map, ltb, Float, pos, negsuc, replicate}
-use Rattle.std.proofs.Math.Option.{none, some}
+use Rattle.std.specs.Prelude.{ℕ, ◌≡◌, ◌⊎◌, true, false, List, [], ◌∷◌, map, ltb, Float, pos, negsuc, replicate, Some, None}
 use Rattle.std.specs.Float.{fin, binary64}
 use Rattle.std.specs.Float.Ieee.{lt, to_bits}
 use Rattle.reader.specs.declared.Answer.TheVariants.{Accepted}
@@ -124,7 +123,7 @@ pub record P7 : Type 0 where
 
 -- P8 completion 10: deadlines 12, 10, -5, none give 0, 0, 15, 0.
 abbrev pub P8 : Type 0
-P8 = map (tardiness_of 10) (some (pos 12) ∷ some (pos 10) ∷ some (negsuc 4) ∷ none ∷ []) ≡ 0 ∷ 0 ∷ 15 ∷ 0 ∷ []
+P8 = map (tardiness_of 10) (Some (pos 12) ∷ Some (pos 10) ∷ Some (negsuc 4) ∷ None ∷ []) ≡ 0 ∷ 0 ∷ 15 ∷ 0 ∷ []
 
 -- ---- the table
 

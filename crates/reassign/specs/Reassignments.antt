@@ -3,11 +3,9 @@
 -- predecessor's end, release, predecessors' ends, end before p; plus own three times there; plus greatest of span + tail over task
 -- successor, waiting activities, activity at p. Absent terms are 0. Least length, then least p. No p, no move. Keep three by
 -- (length, time), ties as given.
-use Rattle.std.specs.Prelude.{ℕ, zero, suc, ◌+◌, ◌-◌, Bool, true, false, cond, ◌||◌, List, [], ◌∷◌, ◌++◌, eqb, ltb, leb, length, get_or}
+use Rattle.std.specs.Prelude.{ℕ, zero, suc, ◌+◌, ◌-◌, Bool, true, false, cond, ◌||◌, List, [], ◌∷◌, ◌++◌, eqb, ltb, leb, length, get_or, Some, None, Option}
 use Rattle.graph.specs.Links.{linked, to_if}
 use Rattle.graph.specs.Shop.{greatest}
-use Rattle.graph.specs.declared.Link.{Link}
-use Rattle.graph.specs.declared.Link.TheVariants.{Nothing}
 use Rattle.plan.specs.Problem.{Problem}
 use Rattle.tables.specs.Tabled.{task_pred, task_succ}
 use Rattle.lines.specs.Lines.{Lines, machine_of, position_of}
@@ -19,8 +17,6 @@ use Rattle.path.specs.Placing.{Placing, start_at, end_at}
 use Rattle.path.specs.Tails.{after}
 use Rattle.reassign.specs.declared.Way.{Way}
 use Rattle.reassign.specs.declared.Spot.{Spot}
-use Rattle.reassign.specs.declared.Room.{Room}
-use Rattle.reassign.specs.declared.Room.TheVariants.{At, Nowhere}
 use Rattle.reassign.specs.declared.Leaving.{Leaving}
 
 -- ---- whether there are any
@@ -49,11 +45,11 @@ abbrev pub last_place : Placing → (line : List ℕ) → (activity : ℕ) → �
 last_place s line a = leading (λ x. ltb (start_at s x) (end_at s a)) line
 
 -- who stands at a position, and before it
-abbrev pub line_at : List ℕ → ℕ → Link
+abbrev pub line_at : List ℕ → ℕ → Option ℕ
 line_at line i = to_if (ltb i (length line)) (get_or line i 0)
 
-abbrev pub line_before : List ℕ → ℕ → Link
-line_before line zero = Nothing
+abbrev pub line_before : List ℕ → ℕ → Option ℕ
+line_before line zero = None
 line_before line (suc i) = line_at line i
 
 -- ---- the longest way through an activity
@@ -102,11 +98,11 @@ abbrev pub best_spot : Placing → (tail line : List ℕ) → Leaving → (time 
 best_spot s tail line l time =
     spot_of (length_at s tail line (way_of l time)) (first_place s line l.activity) (last_place s line l.activity)
 
-abbrev pub room_if : Bool → Spot → Room
-room_if true spot = At spot
-room_if false spot = Nowhere
+abbrev pub room_if : Bool → Spot → Option Spot
+room_if true spot = Some spot
+room_if false spot = None
 
-abbrev pub room_in : Placing → (tail line : List ℕ) → Leaving → (time : ℕ) → Room
+abbrev pub room_in : Placing → (tail line : List ℕ) → Leaving → (time : ℕ) → Option Spot
 room_in s tail line l time = room_if (any_place s line l.activity) (best_spot s tail line l time)
 
 abbrev pub rated_at : Leaving → (to time : ℕ) → Spot → Rated

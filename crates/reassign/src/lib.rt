@@ -37,13 +37,6 @@ pub struct Spot {
     pub place: usize,
 }
 
-// Where an activity may go on a line: its best position, if there is any.
-#[derive(Clone, Copy)]
-pub enum Room {
-    At(Spot),
-    Nowhere,
-}
-
 // An activity that leaves its machine and its position there, and how long the work is before it and behind it, its line apart.
 #[derive(Clone, Copy)]
 pub struct Leaving {
@@ -122,7 +115,7 @@ fn room_in(
     tail: &[u64],
     leaving: Leaving,
     time: u64,
-) -> Room
+) -> Option<Spot>
     requires { Below (length tail.now) line.now × Reckoned starts.now ends.now tail.now × Ready (length tail.now) leaving × (time < 2 ^ 34) }
     ensures { result ≡ room_in (unordered starts.now ends.now) tail.now line.now leaving time }
 {
@@ -130,7 +123,7 @@ fn room_in(
     let first = position::leading_ended(line, ends, starts[a]);
     let last = position::leading_begun(line, starts, ends[a]);
     if last < first {
-        return Room::Nowhere;
+        return None;
     }
     let way = Way {
         head: leaving.head,
@@ -138,7 +131,7 @@ fn room_in(
         rest: leaving.rest,
     };
     let spot = position::best_position(line, starts, ends, tail, way, first, last);
-    Room::At(spot)
+    Some(spot)
 }
 
 // The best position on a machine's line, if there is any.
@@ -151,7 +144,7 @@ fn room_on(
     leaving: Leaving,
     to: usize,
     time: u64,
-) -> Room
+) -> Option<Spot>
     requires holds { Holds cells.now lens.now × (to < 16) × Below (length tail.now) (line_of (lines_in cells.now lens.now) to) }
     requires reckoned { Reckoned starts.now ends.now tail.now × Ready (length tail.now) leaving × (time < 2 ^ 34) }
     ensures { result ≡ room_in (unordered starts.now ends.now) tail.now (line_of (lines_in cells.now lens.now) to) leaving time }
@@ -205,7 +198,7 @@ fn offer_candidates(
         }
         let time = tables::own_span(table, leaving.activity, to);
         let room = room_on(cells, lens, starts, ends, tail, leaving, to, time);
-        let Room::At(spot) = room else {
+        let Some(spot) = room else {
             continue;
         };
         if !ranking::enters(best, spot.length, time) {

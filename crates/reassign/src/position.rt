@@ -5,7 +5,6 @@ ghost use Rattle.reassign.specs.Reassignments.{leading, line_at, line_before, le
 ghost use Rattle.reassign.specs.Reassigning.{unordered, Reckoned, Short};
 
 use crate::{Spot, Way};
-use graph::Link;
 
 // How many lead the line that end by a start.
 pub fn leading_ended(line: &[usize], ends: &[u64], start: u64) -> usize
@@ -38,21 +37,21 @@ pub fn leading_begun(line: &[usize], starts: &[u64], end: u64) -> usize
 }
 
 // Who stands at a position.
-fn line_at(line: &[usize], i: usize) -> Link
+fn line_at(line: &[usize], i: usize) -> Option<usize>
     ensures { result ≡ line_at line.now i }
 {
     if i < line.len() {
-        return Link::To(line[i]);
+        return Some(line[i]);
     }
-    Link::Nothing
+    None
 }
 
 // Who stands before a position.
-fn line_before(line: &[usize], i: usize) -> Link
+fn line_before(line: &[usize], i: usize) -> Option<usize>
     ensures { result ≡ line_before line.now i }
 {
     if i == 0 {
-        return Link::Nothing;
+        return None;
     }
     line_at(line, i - 1)
 }

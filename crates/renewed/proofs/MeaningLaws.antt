@@ -1,9 +1,9 @@
 -- Renewed bytes that are taken in mean the problem that they were made from, with the genes that were put.
+use Rattle.std.specs.Prelude.{None, Some}
 use Prim.Native.Nat.{ℕ, suc, ◌+◌, ◌*◌, ◌-◌, ◌/◌, ◌%◌, ◌^◌, ◌≤◌, ◌<◌}
 use mathlib.Core.Path.{◌≡◌, refl, sym, ap, ◌∙◌, subst}
 use mathlib.Core.Bool.{Bool, true, false, cond, ◌&&◌}
 use mathlib.Core.List.{List, [], ◌∷◌}
-use mathlib.Core.Option.{none, some}
 use native.Mathlib.Nat.{le_trans}
 use native.Mathlib.Omega.{arith}
 use borrow.Author.Tests.{lt-ltb}
@@ -39,7 +39,7 @@ words_of_machines [] h = tt
 words_of_machines (x ∷ xs) h = (omega (arith, h.0), words_of_machines xs h.1)
 
 -- A machine's word, below -1, and none past the last.
-machine_is : (b c : Bool) (m : ℕ) → c ≡ true → some_if (b && c) m ≡ cond b (some m) none
+machine_is : (b c : Bool) (m : ℕ) → c ≡ true → some_if (b && c) m ≡ cond b (Some m) None
 machine_is true c m e = ap (λ (d : Bool). some_if d m) e
 machine_is false c m e = refl
 

@@ -1,7 +1,6 @@
 -- What a plan with another Order and Assignment is to mean: the same problem, and the genes that were put. Two problems are the same where all
 -- that they say of their tasks, activities and machines is the same; what stands for numbers past these means nothing.
-use Rattle.std.specs.Prelude.{ℕ, ◌*◌, ◌≤◌, ◌<◌, ◌≡◌, cond, List, ltb, length, get_or, take}
-use Rattle.std.proofs.Math.Option.{none, some}
+use Rattle.std.specs.Prelude.{ℕ, ◌*◌, ◌≤◌, ◌<◌, ◌≡◌, cond, List, ltb, length, get_or, take, Some, None}
 use Rattle.reader.specs.declared.Answer.TheVariants.{Accepted}
 use Rattle.plan.specs.Problem.{Problem, Genes}
 use Rattle.plan.specs.Found.{layout_of}
@@ -39,7 +38,7 @@ pub record Same (p q : Problem) : Type 0 where
 -- The genes that the two lists hold.
 abbrev pub genes_written : (tasks machines : List ℕ) → Genes
 genes_written tasks machines =
-    record { order = tasks; assigned = λ a. cond (ltb a (length machines)) (some (get_or machines a 0)) none }
+    record { order = tasks; assigned = λ a. cond (ltb a (length machines)) (Some (get_or machines a 0)) None }
 
 pub record Renewed (s tasks machines : List ℕ) : Type 0 where
   pub taken : (taken_in (renewed_plan s tasks machines)).answer ≡ Accepted

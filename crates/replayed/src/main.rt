@@ -8,7 +8,6 @@ ghost use Rattle.replayed.specs.Replayed.{Replayed, Failed, Prints};
 
 use std::io;
 use std::io::{Read, Write};
-use stream::Next;
 
 fn main(rt: HostRuntime) -> io::Result<()> {
     let mut input = rt.stdin();
@@ -40,7 +39,7 @@ fn replay_one<R: Read, W: Write>(
     ensures err { OnErr result (Failed plan.new text.old text.new) }
     ensures lost { OnErr result (Loses (R.remaining input.old) (R.remaining input.new)) }
 {
-    let Next::Plan(n) = stream::next_plan(input, plan)? else {
+    let Some(n) = stream::next_plan(input, plan)? else {
         return Ok(false);
     };
     let shown = terminal_text::show(&plan[..n], text);

@@ -1,4 +1,5 @@
 -- The check accepts a lawful sheet.
+use Rattle.std.specs.Prelude.{None, Option, Some, ℕ}
 use Prim.Native.Nat.{ℕ, ◌+◌, ◌*◌, ◌≤◌, ◌<◌}
 use mathlib.Core.Path.{◌≡◌, refl, sym, ap, ◌∙◌, subst}
 use mathlib.Core.Bool.{Bool, true, false, cond}
@@ -12,8 +13,6 @@ use lib.IntN.{ℤ, pos}
 use lib.Signed.{le_z}
 use Rattle.graph.specs.Counting.{count_of}
 use Rattle.graph.specs.Links.{linked}
-use Rattle.graph.specs.declared.Link.{Link}
-use Rattle.graph.specs.declared.Link.TheVariants.{To, Nothing}
 use Rattle.plan.specs.Problem.{Problem}
 use Rattle.tables.specs.Tabled.{task_pred}
 use Rattle.sheet.specs.Rows.{rows_in, is_whole, start_in, end_in, first, subject_of, is_of, is_on, activity_of, is_row, is_row_on, first_row, row_before}
@@ -88,7 +87,7 @@ module _ (p : Problem) (l : List ℤ) (s : Lawful p l) where
     none_before e none = (
       ap (λ (r : ℕ). lasts l i (span_after p l (s.activity i) (s.machine i) r)) e
           ∙ ap (λ (x : Subject). lasts l i (span_from p (s.activity i) (s.machine i) (activity_of x))) (past_unknown p.n p.machines l)
-          ∙ lasting (span_from p (s.activity i) (s.machine i) Nothing)
+          ∙ lasting (span_from p (s.activity i) (s.machine i) None)
           (s.lasts-first i h (λ j k. eqb-false (s.machine j) (s.machine i) (sym (on_is j (omega arith) (s.machine i)) ∙ none j k))),
       ap (ends_by l i) e ∙ past_ends l i,
     )
@@ -99,7 +98,7 @@ module _ (p : Problem) (l : List ℤ) (s : Lawful p l) where
     one_before j e k on none = (
       ap (λ (r : ℕ). lasts l i (span_after p l (s.activity i) (s.machine i) r)) e
           ∙ ap (λ (x : Subject). lasts l i (span_from p (s.activity i) (s.machine i) (activity_of x))) (known j there)
-          ∙ lasting (span_from p (s.activity i) (s.machine i) (To (s.activity j))) (s.lasts_after j i h precedes),
+          ∙ lasting (span_from p (s.activity i) (s.machine i) (Some (s.activity j))) (s.lasts_after j i h precedes),
       ap (ends_by l i) e
           ∙ late_ends l i j (s.end j) (s.start i) (s.reads j there).3 (s.reads i h).2 (s.lined j i h precedes),
     )
@@ -131,10 +130,10 @@ module _ (p : Problem) (l : List ℤ) (s : Lawful p l) where
         (f w.0 k (eqb-true (s.activity w.0) b (sym (row_is w.0 k b) ∙ w.1.3))))
         (first_cases (is_row p.n p.machines l b) (rows_in l) 0)
 
-    after_link : (x : Link) → task_pred p (s.activity i) ≡ x → all (λ b. ends_by l i (first_row p.n p.machines l b)) (linked x) ≡ true
+    after_link : (x : Option ℕ) → task_pred p (s.activity i) ≡ x → all (λ b. ends_by l i (first_row p.n p.machines l b)) (linked x) ≡ true
     unfolding all
-    after_link (To b) e = rw (looked_for b (λ j k q. s.stepped j i k h (e ∙ ap To (sym q))))
-    after_link Nothing e = refl
+    after_link (Some b) e = rw (looked_for b (λ j k q. s.stepped j i k h (e ∙ ap Some (sym q))))
+    after_link None e = refl
 
     kept : Kept p l i (s.activity i) (s.machine i)
     unfolding before Lined

@@ -1,4 +1,5 @@
 -- A sheet that the check accepts is lawful.
+use Rattle.std.specs.Prelude.{Option, Some, ℕ}
 use Prim.Native.Nat.{ℕ, zero, suc, ◌+◌, ◌*◌, ◌≤◌, ◌<◌}
 use mathlib.Core.Path.{◌≡◌, refl, sym, ap, ◌∙◌, subst}
 use mathlib.Core.Bool.{true, false}
@@ -13,8 +14,6 @@ use lib.Signed.{le_z}
 use Rattle.words.specs.Signed.{clamp}
 use Rattle.graph.specs.Counting.{count_of}
 use Rattle.graph.specs.Links.{linked}
-use Rattle.graph.specs.declared.Link.{Link}
-use Rattle.graph.specs.declared.Link.TheVariants.{To}
 use Rattle.graph.proofs.CountingLaws.{hit-eq}
 use Rattle.plan.specs.Problem.{Problem}
 use Rattle.tables.specs.Tabled.{task_pred}
@@ -32,7 +31,7 @@ use Rattle.sheet.proofs.KeptLaws.{Kept, good_known, good_kept, accepted_rows, ac
 ends_whole : (l : List ℤ) (i r : ℕ) → 4 * r + 3 < length l → ends_by l i r ≡ true → le_z (end_in l r) (start_in l i) ≡ true
 ends_whole l i r h e = rw (lt-ltb (4 * r + 3) (length l) h) at e
 
-one_linked : (b : ℕ) → 0 < count_of b (linked (To b))
+one_linked : (b : ℕ) → 0 < count_of b (linked (Some b))
 unfolding count_of
 one_linked b = omega (arith, hit-eq b b refl)
 
@@ -141,7 +140,7 @@ module _ (p : Problem) (l : List ℤ) (ok : check_sheet p l ≡ Accepted) where
         stepped = λ j i k h e.
             found_ends j i k h
             (all-each (λ b. ends_by l i (first_row p.n p.machines l b)) (linked (task_pred p (activity i))) (activity j) (kept i h).stepped
-            (subst (λ (x : Link). 0 < count_of (activity j) (linked x)) (sym e) (one_linked (activity j))));
+            (subst (λ (x : Option ℕ). 0 < count_of (activity j) (linked x)) (sym e) (one_linked (activity j))));
         named = λ j i k h c.
             found_ends j i k h
             (all-each (λ b. ends_by l i (first_row p.n p.machines l b)) (p.predecessors (activity i)) (activity j) (kept i h).named c);

@@ -1,10 +1,9 @@
 -- Laws of the rules: a setup is short, the step before has a lower number, and what is left of a list of predecessors or of activities.
+use Rattle.std.specs.Prelude.{None, Option, Some, ℕ, unwrap_or}
 use Prim.Native.Nat.{ℕ, zero, suc, ◌+◌, ◌-◌, ◌≤◌, ◌<◌}
 use mathlib.Core.Path.{◌≡◌, refl, sym, ap, ◌∙◌}
 use mathlib.Core.Bool.{Bool, true, false, ◌&&◌}
 use mathlib.Core.List.{List, [], ◌∷◌}
-use mathlib.Core.Option
-use mathlib.Core.Option.{Option, none, some}
 use native.Mathlib.Omega.{arith}
 use native.Mathlib.Numerals.{add-one}
 use borrow.Author.Tests.{lt-ltb, le-ltb}
@@ -14,8 +13,6 @@ use lib.ListN.{length, get_or, drop}
 use lib.Seq.{drop-cons, drop-length}
 use Rattle.graph.specs.Counting.{Below}
 use Rattle.graph.specs.Links.{to_if, linked}
-use Rattle.graph.specs.declared.Link.{Link}
-use Rattle.graph.specs.declared.Link.TheVariants.{To, Nothing}
 use Rattle.graph.proofs.CountingLaws.{below_more}
 use Rattle.plan.specs.Problem.{Problem, Genes}
 use Rattle.plan.specs.Accepted.{Accepted, longest}
@@ -28,12 +25,12 @@ use Rattle.sheet.proofs.SearchLaws.{first-yes, first-no}
 
 -- ---- rule 5
 
-pub setup_short : (p : Problem) (g : Genes) → Accepted p g → (a m : ℕ) (before : Link) → a < p.n → m < p.machines → setup_of p a m before ≤ longest
+pub setup_short : (p : Problem) (g : Genes) → Accepted p g → (a m : ℕ) (before : Option ℕ) → a < p.n → m < p.machines → setup_of p a m before ≤ longest
 setup_short p g ok a m before h k = go (p.change m (category_before p before) (p.category (p.task_of a))) refl
   where
-    go : (o : Option ℕ) → p.change m (category_before p before) (p.category (p.task_of a)) ≡ o → Option.get_or o (p.setup a m) ≤ longest
-    go none e = ok.setup a m h k
-    go (some x) e = ok.change m (category_before p before) (p.category (p.task_of a)) x e
+    go : (o : Option ℕ) → p.change m (category_before p before) (p.category (p.task_of a)) ≡ o → unwrap_or o (p.setup a m) ≤ longest
+    go None e = ok.setup a m h k
+    go (Some x) e = ok.change m (category_before p before) (p.category (p.task_of a)) x e
 
 -- ---- rule 8
 
@@ -41,11 +38,11 @@ pub and_true : (t : Bool) → t ≡ t && true
 and_true true = refl
 and_true false = refl
 
-to_if_lem : (t : Bool) (x b : ℕ) → to_if t x ≡ To b → x ≡ b
+to_if_lem : (t : Bool) (x b : ℕ) → to_if t x ≡ Some b → x ≡ b
 to_if_lem true x b e = cc
 to_if_lem false x b e = let o : ◌≡◌ {A = ℕ} 0 1 = cc in absurd (omega arith)
 
-pub step_lower : (p : Problem) (a b : ℕ) → task_pred p a ≡ To b → b < a
+pub step_lower : (p : Problem) (a b : ℕ) → task_pred p a ≡ Some b → b < a
 step_lower p zero b e = let o : ◌≡◌ {A = ℕ} 0 1 = cc in absurd (omega arith)
 step_lower p (suc a) b e = let q = to_if_lem (eqb (p.task_of a) (p.task_of (suc a))) a b e in omega arith
 
@@ -81,10 +78,10 @@ all_same f g n (x ∷ l) h (w, b) = rw (h x w, all_same f g n l h b)
 
 -- ---- rules 8 and 9 by the first rows that were filled in
 
-step_below : (p : Problem) (a : ℕ) (x : Link) → task_pred p a ≡ x → a ≤ 128 → Below 128 (linked x)
+step_below : (p : Problem) (a : ℕ) (x : Option ℕ) → task_pred p a ≡ x → a ≤ 128 → Below 128 (linked x)
 unfolding Below
-step_below p a (To b) e h = (omega (arith, step_lower p a b e), tt)
-step_below p a Nothing e h = tt
+step_below p a (Some b) e h = (omega (arith, step_lower p a b e), tt)
+step_below p a None e h = tt
 
 module _ (p : Problem) {l : List ℤ} {firsts : List ℕ} (f : FirstRows p.n p.machines l firsts) (few : p.n ≤ 128) (i a : ℕ) where
   filled_ends : (b : ℕ) → b < 128 → ends_by l i (get_or firsts b 0) ≡ ends_by l i (first_row p.n p.machines l b)

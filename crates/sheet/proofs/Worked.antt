@@ -1,9 +1,9 @@
 -- Sheets worked out by the rules: Plan S improved, as document 01 prints it, and sheets that break one rule each.
+use Rattle.std.specs.Prelude.{None, Option, Some}
 use Prim.Native.Nat.{ℕ, ◌*◌, ◌/◌}
 use mathlib.Core.Path.{◌≡◌, refl}
 use mathlib.Core.Bool.{false, cond, ◌&&◌}
 use mathlib.Core.List.{List, [], ◌∷◌, ◌++◌}
-use mathlib.Core.Option.{Option, none, some}
 use lib.Dec.{eqb}
 use lib.IntN.{ℤ, pos, negsuc}
 use lib.ListN.{get_or}
@@ -22,7 +22,7 @@ plan_with release named change =
       n = 4;
       machines = 2;
       category = λ t. t;
-      deadline = λ t. none;
+      deadline = λ t. None;
       first = λ t. 2 * t;
       steps = λ t. 2;
       task_of = λ a. a / 2;
@@ -40,11 +40,11 @@ plan_with release named change =
     }
 
 abbrev plan : (release : ℕ) → (named : List ℕ) → Problem
-plan release named = plan_with release named (λ m b c. none)
+plan release named = plan_with release named (λ m b c. None)
 
 -- 2 on machine 1 from the second task to the first, 7 where nothing ran before on machine 0
 abbrev changes : ℕ → ℕ → ℕ → Option ℕ
-changes m b c = cond (eqb m 1 && (eqb b 1 && eqb c 0)) (some 2) (cond (eqb m 0 && eqb b 8) (some 7) none)
+changes m b c = cond (eqb m 1 && (eqb b 1 && eqb c 0)) (Some 2) (cond (eqb m 0 && eqb b 8) (Some 7) None)
 
 abbrev row : (activity machine start end : ℕ) → List ℤ
 row a m s e = pos a ∷ pos m ∷ pos s ∷ pos e ∷ []

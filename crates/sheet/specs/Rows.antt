@@ -1,9 +1,7 @@
 -- Document 01, "The sheet check (ours)": rows of activity, machine, start, end, signed 64-bit, one after the other in a list of numbers. A last
 -- row of fewer than four numbers is a row too.
-use Rattle.std.specs.Prelude.{ℕ, zero, suc, ◌+◌, ◌*◌, ◌/◌, ◌<◌, ◌≡◌, Bool, true, false, cond, ◌&&◌, List, eqb, ltb, length, get_or, ℤ, pos, negsuc}
+use Rattle.std.specs.Prelude.{ℕ, zero, suc, ◌+◌, ◌*◌, ◌/◌, ◌<◌, ◌≡◌, Bool, true, false, cond, ◌&&◌, List, eqb, ltb, length, get_or, ℤ, pos, negsuc, Some, None, Option}
 use Rattle.words.specs.Signed.{clamp}
-use Rattle.graph.specs.declared.Link.{Link}
-use Rattle.graph.specs.declared.Link.TheVariants.{To, Nothing}
 use Rattle.sheet.specs.declared.Subject.{Subject}
 use Rattle.sheet.specs.declared.Subject.TheVariants.{Known, Unknown}
 
@@ -61,9 +59,9 @@ abbrev pub is_on : ℕ → Subject → Bool
 is_on k (Known a m) = eqb m k
 is_on k Unknown = false
 
-abbrev pub activity_of : Subject → Link
-activity_of (Known a m) = To a
-activity_of Unknown = Nothing
+abbrev pub activity_of : Subject → Option ℕ
+activity_of (Known a m) = Some a
+activity_of Unknown = None
 
 abbrev pub is_row : (n R : ℕ) → List ℤ → (b i : ℕ) → Bool
 is_row n R l b i = is_of b (subject_of n R l i)

@@ -14,18 +14,17 @@ ghost use Rattle.sheet.specs.Rows.{first, subject_of, activity_of, first_row, Fi
 ghost use Rattle.sheet.specs.Sheet.{all, ends_by, span_after, own_rule, later_rule, missing_if};
 
 use crate::{Subject, Verdict, rows};
-use graph::Link;
 use plan::Layout;
 
 // The activity of a row, where there is a row.
-fn activity_of(rows: &[i64], n: usize, machines: usize, r: usize) -> Link
+fn activity_of(rows: &[i64], n: usize, machines: usize, r: usize) -> Option<usize>
     requires { r < 2 ^ 60 }
     ensures { result ≡ activity_of (subject_of n machines rows.now r) }
 {
     let Subject::Known(a, _) = rows::subject_of(rows, n, machines, r) else {
-        return Link::Nothing;
+        return None;
     };
-    Link::To(a)
+    Some(a)
 }
 
 // The span that a row must have.
@@ -84,7 +83,7 @@ fn after_step(table: &[usize], rows: &[i64], firsts: &[usize], i: usize, a: usiz
     requires { Held table.now a × (4 * i + 3 < length rows.now) × (length firsts.now ≡ 128) × ((b : ℕ) → b < 128 → get_or firsts.now b 0 < 2 ^ 60) }
     ensures { (p : Problem) → Tabled p table.now → a < p.n → result ≡ all (λ b. ends_by rows.now i (get_or firsts.now b 0)) (linked (task_pred p a)) }
 {
-    let Link::To(b) = tables::before_of(table, a) else {
+    let Some(b) = tables::before_of(table, a) else {
         return true;
     };
     rows::ends_by(rows, i, firsts[b])

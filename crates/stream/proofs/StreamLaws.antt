@@ -1,10 +1,9 @@
 -- A plan that was answered lies in the buffer.
+use Rattle.std.specs.Prelude.{Option, Some, ℕ}
 use Prim.Native.Nat.{ℕ}
 use mathlib.Core.Path.{◌≡◌, subst}
 use mathlib.Core.List.{List}
 use Rattle.stream.specs.Stream.{IsPrefixLen, Lies}
-use Rattle.stream.specs.declared.Next.{Next}
-use Rattle.stream.specs.declared.Next.TheVariants.{Plan}
 
-pub plan_lies : {r : Next} {n : ℕ} (line : List ℕ) → r ≡ Plan n → Lies r line → IsPrefixLen n line
-plan_lies line e h = subst (λ (r : Next). Lies r line) e h
+pub plan_lies : {r : Option ℕ} {n : ℕ} (line : List ℕ) → r ≡ Some n → Lies r line → IsPrefixLen n line
+plan_lies line e h = subst (λ (r : Option ℕ). Lies r line) e h

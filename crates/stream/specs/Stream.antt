@@ -1,18 +1,16 @@
 -- What is known of the next plan of a stream: its length is within the buffer; and where the reader's bytes are known, it is the bytes that
 -- follow the word of its length.
-use Rattle.std.specs.Prelude.{List, ℕ, ◌≡◌, ◌+◌, ◌<◌, ◌≤◌, ◌⊎◌, ◌++◌, length, take, get_or, IfSome, Option}
+use Rattle.std.specs.Prelude.{List, ℕ, ◌≡◌, ◌+◌, ◌<◌, ◌≤◌, ◌⊎◌, ◌++◌, length, take, get_or, IfSome, Option, Some, None}
 use Rattle.std.specs.Io.KnownBytes.{Consumes}
 use Rattle.words.specs.Words.{words}
-use Rattle.stream.specs.declared.Next.{Next}
-use Rattle.stream.specs.declared.Next.TheVariants.{Ended, Plan}
 
 -- The first n numbers of a line can be taken, and are n.
 abbrev pub IsPrefixLen : ℕ → (line : List ℕ) → Type 0
 IsPrefixLen n line = (n ≤ length line) × (n ≡ length (take n line))
 
-abbrev pub Lies : Next → (line : List ℕ) → Type 0
-Lies Ended line = Unit {0}
-Lies (Plan n) line = IsPrefixLen n line
+abbrev pub Lies : Option ℕ → (line : List ℕ) → Type 0
+Lies None line = Unit {0}
+Lies (Some n) line = IsPrefixLen n line
 
 -- The reader's bytes begin with those at the start of the buffer, up to some place, and it has lost just these.
 abbrev pub Leaves : (before after : Option (List ℕ)) → (buf : List ℕ) → Type 0
@@ -34,6 +32,6 @@ HoldsNone room bytes = (length bytes < 4) ⊎ (room < size_word bytes) ⊎ (leng
 abbrev pub HasRead : (before after : Option (List ℕ)) → ℕ → (line : List ℕ) → Type 0
 HasRead before after n line = (head : List ℕ) × (length head ≡ 4) × (get_or (words head) 0 0 ≡ n) × Consumes before after (head ++ take n line)
 
-abbrev pub Takes : (before after : Option (List ℕ)) → Next → (line : List ℕ) → Type 0
-Takes before after Ended line = IfSome before (HoldsNone (length line))
-Takes before after (Plan n) line = HasRead before after n line
+abbrev pub Takes : (before after : Option (List ℕ)) → Option ℕ → (line : List ℕ) → Type 0
+Takes before after None line = IfSome before (HoldsNone (length line))
+Takes before after (Some n) line = HasRead before after n line

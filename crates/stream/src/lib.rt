@@ -8,15 +8,9 @@ ghost use Rattle.stream.specs.Stream.{Lies, Takes, IsPrefixLen, Leaves, Loses};
 use std::io;
 use std::io::Read;
 
-#[derive(Clone, Copy)]
-pub enum Next {
-    Ended,
-    Plan(usize),
-}
-
 // Reads the next plan to the start of the buffer, and answers its length. The input has ended also where the rest of it holds no whole plan
 // that has room there. A read that fails ends it with that error; how far the buffer was filled then is open.
-pub fn next_plan<R: Read>(input: &mut R, plan: &mut [u8]) -> io::Result<Next>
+pub fn next_plan<R: Read>(input: &mut R, plan: &mut [u8]) -> io::Result<Option<usize>>
     ensures lies { IfOk result (λ next. Lies next plan.new) }
     ensures taken { IfOk result (λ next. Takes (R.remaining input.old) (R.remaining input.new) next plan.new) }
     ensures err { OnErr result (Loses (R.remaining input.old) (R.remaining input.new)) }
@@ -24,17 +18,17 @@ pub fn next_plan<R: Read>(input: &mut R, plan: &mut [u8]) -> io::Result<Next>
     let mut head = [0u8; 4];
     let got = read_full(input, &mut head)?;
     if got < 4 {
-        return Ok(Next::Ended);
+        return Ok(None);
     }
     let n = words::word(&head, 0) as usize;
     if plan.len() < n {
-        return Ok(Next::Ended);
+        return Ok(None);
     }
     let length = read_full(input, &mut plan[..n])?;
     if length < n {
-        return Ok(Next::Ended);
+        return Ok(None);
     }
-    Ok(Next::Plan(n))
+    Ok(Some(n))
 }
 
 // Reads until the buffer is full or the input ends, and answers how many bytes it put at the start of the buffer. A read that fails ends it

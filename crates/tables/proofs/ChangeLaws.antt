@@ -1,8 +1,8 @@
 -- Laws of the table of Setups entries: of the entries for one triple, the one put last stays.
+use Rattle.std.specs.Prelude.{None, Some, Option}
 use Prim.Native.Nat.{ℕ, suc, ◌+◌, ◌*◌, ◌-◌, ◌≤◌, ◌<◌}
 use mathlib.Core.List.{List}
 use mathlib.Core.Path.{◌≡◌, refl, sym, ap, ap₂, ◌∙◌, subst}
-use mathlib.Core.Option.{Option, none, some}
 use mathlib.Core.Bool.{Bool, true, false, cond, ◌&&◌}
 use native.Mathlib.Omega.{arith}
 use lib.ListN.{length, get_or, set}
@@ -14,8 +14,6 @@ use Rattle.plan.specs.Problem.{Problem}
 use Rattle.plan.specs.declared.Layout.{Layout}
 use Rattle.plan.specs.Found.{Placed}
 use Rattle.tables.specs.Columns.{cell_of, change_put, Coded}
-use Rattle.tables.specs.Found.{change_of}
-use Rattle.tables.specs.declared.Change.TheVariants.{To, Own}
 use Rattle.tables.specs.Tabled.{change_code, Tabled}
 use Rattle.tables.specs.Entries.{Entries}
 use Rattle.tables.proofs.RegionLaws.{region_at}
@@ -42,7 +40,7 @@ module _ {ws : List ℕ} {n at : ℕ} {list : List ℕ} (k : Coded ws n (at + 4)
       other m b c im ib ic ne = get_or-set_other list own (cell_of m b c) (get_or ws (at + 3) 0 + 1) 0 ne ∙ k.codes m b c im ib ic
 
       go : (m b c : ℕ) → m < 16 → b < 9 → c < 8 → (x : Bool) → eqb (get_or ws at 0) m ≡ x → (y : Bool) → eqb (get_or ws (at + 1) 0) b ≡ y → (w : Bool)
-          → eqb (get_or ws (at + 2) 0) c ≡ w → get_or (change_put ws at list) (cell_of m b c) 0 ≡ change_code (cond (x && (y && w)) (some (get_or ws (at + 3) 0)) (change_from ws n (at + 4) m b c))
+          → eqb (get_or ws (at + 2) 0) c ≡ w → get_or (change_put ws at list) (cell_of m b c) 0 ≡ change_code (cond (x && (y && w)) (Some (get_or ws (at + 3) 0)) (change_from ws n (at + 4) m b c))
       go m b c im ib ic true ex true ey true ew =
           let q : cell_of m b c ≡ own = omega (arith, eqb-true (get_or ws at 0) m ex, eqb-true (get_or ws (at + 1) 0) b ey, eqb-true (get_or ws (at + 2) 0) c ew) in
           ap (λ (i : ℕ). get_or (change_put ws at list) i 0) q ∙ get_or-set_same list own (get_or ws (at + 3) 0 + 1) 0 (omega arith)
@@ -94,13 +92,13 @@ coded_end ws all e at n {list} z a k =
 
 -- ---- what a code says
 
-pub own_of : (o : Option ℕ) (x : ℕ) → x ≡ change_code o → x ≡ 0 → Own ≡ change_of o
-own_of none x e z = refl
-own_of (some y) x e z = absurd (omega arith)
+pub own_of : (o : Option ℕ) (x : ℕ) → x ≡ change_code o → x ≡ 0 → None ≡ o
+own_of None x e z = refl
+own_of (Some y) x e z = absurd (omega arith)
 
-pub change_to : (o : Option ℕ) (x : ℕ) → x ≡ change_code o → (x ≡ 0 → ⊥) → To (x - 1) ≡ change_of o
-change_to none x e z = absurd (z e)
-change_to (some y) x e z = ap To (omega arith)
+pub change_to : (o : Option ℕ) (x : ℕ) → x ≡ change_code o → (x ≡ 0 → ⊥) → Some (x - 1) ≡ o
+change_to None x e z = absurd (z e)
+change_to (Some y) x e z = ap Some (omega arith)
 
 -- The code that a table holds for a triple.
 pub code_at : (p : Problem) (table : List ℕ) (m before own : ℕ) → Tabled p table → m < 16 → before < 9 → own < 8

@@ -1,4 +1,5 @@
 -- Activities are numbered task by task: where a task begins, which task an activity is of, and its neighbours in the task.
+use Rattle.std.specs.Prelude.{None, Some}
 use Prim.Native.Nat.{ℕ, zero, suc, ◌+◌, ◌-◌, ◌≤◌, ◌<◌}
 use mathlib.Core.Path.{◌≡◌, refl, sym, ap, subst}
 use mathlib.Core.List.{List}
@@ -10,7 +11,6 @@ use lib.ListN.{length, get_or}
 use borrow.Author.Tests.{lt-ltb, le-ltb, eq-eqb, ne_eqb, ltb-true, ltb-false}
 use Rattle.graph.specs.Links.{linked, to_if}
 use Rattle.graph.proofs.CountingLaws.{either}
-use Rattle.graph.specs.declared.Link.TheVariants.{To, Nothing}
 use Rattle.graph.specs.Counting.{bit}
 use Rattle.grammar.specs.Rules.{total_from}
 use Rattle.plan.specs.Problem.{Problem}
@@ -128,32 +128,32 @@ module _ (ws : List ℕ) (z : Layout) where
 -- ---- the links that the neighbours are
 
 module _ (p : Problem) (a b : ℕ) (e : b ≡ next_of p a) where
-  pub next_to : b < p.n → To b ≡ task_succ p a
+  pub next_to : b < p.n → Some b ≡ task_succ p a
   next_to h = go (is_next p a) e
     where
-      go : (t : Bool) → b ≡ cond t (a + 1) p.n → To b ≡ to_if t (a + 1)
-      go true q = ap To q
+      go : (t : Bool) → b ≡ cond t (a + 1) p.n → Some b ≡ to_if t (a + 1)
+      go true q = ap Some q
       go false q = absurd (omega arith)
 
-  pub next_none : p.n ≤ b → Nothing ≡ task_succ p a
+  pub next_none : p.n ≤ b → None ≡ task_succ p a
   next_none h = go (ltb (a + 1) p.n) refl (eqb (p.task_of (a + 1)) (p.task_of a)) e
     where
-      go : (t : Bool) → ltb (a + 1) p.n ≡ t → (s : Bool) → b ≡ cond (t && s) (a + 1) p.n → Nothing ≡ to_if (t && s) (a + 1)
+      go : (t : Bool) → ltb (a + 1) p.n ≡ t → (s : Bool) → b ≡ cond (t && s) (a + 1) p.n → None ≡ to_if (t && s) (a + 1)
       go true l true q = absurd (omega (arith, ltb-true (a + 1) p.n l))
       go true l false q = refl
       go false l s q = refl
 
-pub before_none : (p : Problem) (a : ℕ) → a ≡ 0 → Nothing ≡ task_pred p a
+pub before_none : (p : Problem) (a : ℕ) → a ≡ 0 → None ≡ task_pred p a
 before_none p zero e = refl
 before_none p (suc a) e = absurd (omega arith)
 
-pub before_to : (p : Problem) (a : ℕ) → (a ≡ 0 → ⊥) → p.task_of (a - 1) ≡ p.task_of a → To (a - 1) ≡ task_pred p a
+pub before_to : (p : Problem) (a : ℕ) → (a ≡ 0 → ⊥) → p.task_of (a - 1) ≡ p.task_of a → Some (a - 1) ≡ task_pred p a
 before_to p zero h e = absurd (h refl)
 before_to p (suc a) h e =
     let k : suc a - 1 ≡ a = omega arith in
-    rw (eq-eqb (p.task_of a) (p.task_of (suc a)) (subst (λ (i : ℕ). p.task_of i ≡ p.task_of (suc a)) k e)) (ap To k)
+    rw (eq-eqb (p.task_of a) (p.task_of (suc a)) (subst (λ (i : ℕ). p.task_of i ≡ p.task_of (suc a)) k e)) (ap Some k)
 
-pub before_other : (p : Problem) (a : ℕ) → (p.task_of (a - 1) ≡ p.task_of a → ⊥) → Nothing ≡ task_pred p a
+pub before_other : (p : Problem) (a : ℕ) → (p.task_of (a - 1) ≡ p.task_of a → ⊥) → None ≡ task_pred p a
 before_other p zero h = refl
 before_other p (suc a) h =
     let k : suc a - 1 ≡ a = omega arith in

@@ -1,21 +1,18 @@
 -- What each region holds, by the problem's functions.
-use Rattle.std.specs.Prelude.{ℕ, zero, suc, ◌+◌, ◌*◌, ◌≤◌, ◌<◌, ◌≡◌, Bool, cond, ◌&&◌, List, eqb, ltb, length, get_or}
-use Rattle.std.proofs.Math.Option.{Option, none, some}
+use Rattle.std.specs.Prelude.{ℕ, zero, suc, ◌+◌, ◌*◌, ◌≤◌, ◌<◌, ◌≡◌, Bool, cond, ◌&&◌, List, eqb, ltb, length, get_or, None, Option, Some}
 use Rattle.graph.specs.Links.{to_if, linked, part_of}
-use Rattle.graph.specs.declared.Link.{Link}
-use Rattle.graph.specs.declared.Link.TheVariants.{Nothing}
 use Rattle.plan.specs.Problem.{Problem}
 use Rattle.tables.specs.Regions.{owners, nexts, releases, categories, waits, named_at, named, waiting_at, waiting, candidates_at, candidates, changes, spans, cells}
 
 -- The step before and the step after in the same task.
-abbrev pub task_pred : Problem → ℕ → Link
-task_pred p zero = Nothing
+abbrev pub task_pred : Problem → ℕ → Option ℕ
+task_pred p zero = None
 task_pred p (suc a) = to_if (eqb (p.task_of a) (p.task_of (suc a))) a
 
 abbrev pub is_next : Problem → ℕ → Bool
 is_next p a = ltb (a + 1) p.n && eqb (p.task_of (a + 1)) (p.task_of a)
 
-abbrev pub task_succ : Problem → ℕ → Link
+abbrev pub task_succ : Problem → ℕ → Option ℕ
 task_succ p a = to_if (is_next p a) (a + 1)
 
 -- The step after as a number; n where there is none.
@@ -28,8 +25,8 @@ waits_of p a = length (linked (task_pred p a)) + length (p.predecessors a)
 
 -- A Setups entry as a number: 0 where there is none, else one more than its setup.
 abbrev pub change_code : Option ℕ → ℕ
-change_code none = 0
-change_code (some x) = x + 1
+change_code None = 0
+change_code (Some x) = x + 1
 
 -- How long an activity takes on a machine with its own setup.
 abbrev pub own_span : Problem → (activity machine : ℕ) → ℕ

@@ -29,13 +29,6 @@ pub use lookups::{
 };
 use plan::Layout;
 
-// The setup of a change from one category to another where an entry gives it, else the activity's own.
-#[derive(Clone, Copy)]
-pub enum Change {
-    To(u64),
-    Own,
-}
-
 // A task, and the number after its last activity.
 #[derive(Clone, Copy)]
 struct Place {

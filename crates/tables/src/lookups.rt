@@ -3,10 +3,8 @@ ghost use Rattle.std.specs.Prelude.{◌≡◌, ◌+◌, ◌-◌, ◌*◌, ◌≤
 ghost use Rattle.plan.specs.Problem.{Problem};
 ghost use Rattle.tables.specs.Regions.{cells};
 ghost use Rattle.tables.specs.Tabled.{Tabled, task_pred, task_succ, own_span};
-ghost use Rattle.tables.specs.Found.{change_of, Held};
+ghost use Rattle.tables.specs.Found.{Held};
 
-use crate::Change;
-use graph::Link;
 
 // The task of an activity.
 pub fn owner(table: &[usize], a: usize) -> usize
@@ -32,42 +30,42 @@ pub fn category_of(table: &[usize], a: usize) -> usize
 }
 
 // The next step of an activity's task, where there is one; n activities there are.
-pub fn next_of(table: &[usize], n: usize, a: usize) -> Link
+pub fn next_of(table: &[usize], n: usize, a: usize) -> Option<usize>
     requires { (a < 128) × (length table.now ≡ cells) }
     ensures { (p : Problem) → Tabled p table.now → n ≡ p.n → a < p.n → result ≡ task_succ p a }
 {
     let b = table[crate::NEXTS + a];
     if b < n {
-        return Link::To(b);
+        return Some(b);
     }
-    Link::Nothing
+    None
 }
 
 // The step before an activity in its task, where there is one.
-pub fn before_of(table: &[usize], a: usize) -> Link
+pub fn before_of(table: &[usize], a: usize) -> Option<usize>
     requires { (a < 128) × (length table.now ≡ cells) }
     ensures { (p : Problem) → Tabled p table.now → a < p.n → result ≡ task_pred p a }
 {
     if a == 0 {
-        return Link::Nothing;
+        return None;
     }
     let b = a - 1;
     if owner(table, b) == owner(table, a) {
-        return Link::To(b);
+        return Some(b);
     }
-    Link::Nothing
+    None
 }
 
 // The setup that an entry gives a machine from one category to another; 8 is before the first.
-pub fn change_of(table: &[usize], m: usize, before: usize, own: usize) -> Change
+pub fn change_of(table: &[usize], m: usize, before: usize, own: usize) -> Option<u64>
     requires { (m < 16) × (before < 9) × (own < 8) × (length table.now ≡ cells) }
-    ensures { (p : Problem) → Tabled p table.now → result ≡ change_of (p.change m before own) }
+    ensures { (p : Problem) → Tabled p table.now → result ≡ p.change m before own }
 {
     let code = table[crate::CHANGES + 72 * m + 8 * before + own];
     if code == 0 {
-        return Change::Own;
+        return None;
     }
-    Change::To((code - 1) as u64)
+    Some((code - 1) as u64)
 }
 
 // How long an activity takes on a machine with its own setup.

@@ -1,10 +1,9 @@
 -- Starts follow the rule, and no end of an accepted problem is later than 513 times the longest duration.
+use Rattle.std.specs.Prelude.{Option, Some, ℕ, unwrap_or, None}
 use Prim.Native.Nat.{ℕ, zero, suc, ◌+◌, ◌*◌, ◌≤◌, ◌<◌, max}
 use mathlib.Core.Path.{◌≡◌, refl, sym, ap, ◌∙◌, subst}
 use mathlib.Core.Bool.{false}
 use mathlib.Core.List.{List, [], ◌∷◌, ◌++◌}
-use mathlib.Core.Option
-use mathlib.Core.Option.{Option, none, some}
 use native.Mathlib.Omega.{arith}
 use native.Mathlib.Nat.{le_of_eq, le_trans}
 use native.Mathlib.Numerals.{add-one}
@@ -15,8 +14,6 @@ use Rattle.graph.specs.Arcs.{Circle, Waits}
 use Rattle.graph.specs.Order.{InTurn}
 use Rattle.graph.specs.Shop.{greatest, Arc}
 use Rattle.graph.specs.Links.{linked}
-use Rattle.graph.specs.declared.Link.{Link}
-use Rattle.graph.specs.declared.Link.TheVariants.{To}
 use Rattle.graph.proofs.CountingLaws.{count_of-append}
 use Rattle.graph.proofs.CircleLaws.{circle_map}
 use Rattle.graph.proofs.Theorem.{order_in_turn, all_named, order_below}
@@ -39,16 +36,16 @@ abbrev pub latest_at : ℕ → ℕ
 latest_at i = 8589934588 * i + 2147483647
 
 module _ (p : Problem) (g : Genes) (ok : Accepted p g) where
-  chosen_most : (o : Option ℕ) (x : ℕ) → ((y : ℕ) → o ≡ some y → y ≤ longest) → x ≤ longest → Option.get_or o x ≤ longest
-  chosen_most none x h k = k
-  chosen_most (some y) x h k = h y refl
+  chosen_most : (o : Option ℕ) (x : ℕ) → ((y : ℕ) → o ≡ Some y → y ≤ longest) → x ≤ longest → unwrap_or o x ≤ longest
+  chosen_most None x h k = k
+  chosen_most (Some y) x h k = h y refl
 
-  pub setup_most : (a m : ℕ) (before : Link) → a < p.n → m < p.machines → setup_of p a m before ≤ longest
+  pub setup_most : (a m : ℕ) (before : Option ℕ) → a < p.n → m < p.machines → setup_of p a m before ≤ longest
   setup_most a m before h k =
       chosen_most (p.change m (category_before p before) (p.category (p.task_of a))) (p.setup a m)
       (λ y e. ok.change m (category_before p before) (p.category (p.task_of a)) y e) (ok.setup a m h k)
 
-  pub span_most : (a m : ℕ) (before : Link) → a < p.n → m < p.machines → span_of p a m (setup_of p a m before) ≤ 3 * longest
+  pub span_most : (a m : ℕ) (before : Option ℕ) → a < p.n → m < p.machines → span_of p a m (setup_of p a m before) ≤ 3 * longest
   span_most a m before h k = omega (arith, setup_most a m before h k, ok.process a m h k, ok.teardown a m h k)
 
   module _ (lines : Lines) (w : WellFormed p.n p.machines lines) where

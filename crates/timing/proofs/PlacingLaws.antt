@@ -1,4 +1,5 @@
 -- One placing along the timing order: what it asks is there, and it leaves the start and the end that the rule says.
+use Rattle.std.specs.Prelude.{None, Option, Some, ℕ}
 use Prim.Native.Nat.{ℕ, zero, suc, ◌+◌, ◌≤◌, ◌<◌, ◌^◌, max}
 use mathlib.Core.Path.{◌≡◌, refl, sym, ap, ap₂, ◌∙◌, subst}
 use mathlib.Core.List.{List, [], ◌∷◌}
@@ -10,8 +11,6 @@ use Rattle.graph.specs.Counting.{count_of, Below}
 use Rattle.graph.specs.Links.{linked, link_of}
 use Rattle.graph.specs.Shop.{greatest}
 use Rattle.graph.specs.Starts.{Rule, timed, place}
-use Rattle.graph.specs.declared.Link.{Link}
-use Rattle.graph.specs.declared.Link.TheVariants.{To, Nothing}
 use Rattle.graph.proofs.CountingLaws.{hit-eq, hit_pos, below_of}
 use Rattle.graph.proofs.ShopTheorem.{graph}
 use Rattle.graph.proofs.Theorem.{at_most_n}
@@ -40,13 +39,13 @@ greatest-same f g [] m k e h = e
 greatest-same f g (q ∷ ps) m k e h =
     greatest-same f g ps (max m (f q)) (max k (g q)) (ap₂ max e (h q (omega (arith, hit-eq q q refl)))) (λ r l. h r (omega arith))
 
-greatest_link : (f : ℕ → ℕ) (way : ℕ) (link : Link) (m : ℕ) → max m (arrival_of link f way) ≡ greatest (λ q. f q + way) (linked link) m
+greatest_link : (f : ℕ → ℕ) (way : ℕ) (link : Option ℕ) (m : ℕ) → max m (arrival_of link f way) ≡ greatest (λ q. f q + way) (linked link) m
 unfolding greatest
-greatest_link f way Nothing m = omega arith
-greatest_link f way (To q) m = refl
+greatest_link f way None m = omega arith
+greatest_link f way (Some q) m = refl
 
 -- The start as it is worked out: the later of three moments, then the ends of all that are named.
-pub after-all : (p : Problem) (a : ℕ) (line step : Link) (way : ℕ) (ends : ℕ → ℕ) {released first r : ℕ} → released ≡ p.release a
+pub after-all : (p : Problem) (a : ℕ) (line step : Option ℕ) (way : ℕ) (ends : ℕ → ℕ) {released first r : ℕ} → released ≡ p.release a
     → first ≡ max (max released (arrival_of line ends 0)) (arrival_of step ends way)
     → r ≡ greatest ends (p.predecessors a) first → r ≡ start_after p a line step way ends
 after-all p a line step way ends {released} {first} {r} e f h =
@@ -55,10 +54,10 @@ after-all p a line step way ends {released} {first} {r} e f h =
     ∙ ap (λ (x : ℕ). max x (arrival_of step ends way)) (greatest_link ends 0 line (p.release a) ∙ greatest-same (λ q. ends q + 0) ends (linked line) _ _ refl (λ q l. omega arith))
     ∙ greatest_link ends way step _)
 
-named_link : (link : Link) (q : ℕ) → 0 < count_of q (linked link) → link ≡ To q
+named_link : (link : Option ℕ) (q : ℕ) → 0 < count_of q (linked link) → link ≡ Some q
 unfolding count_of
-named_link Nothing q h = absurd (omega arith)
-named_link (To r) q h = ap To (hit_pos r q (omega arith))
+named_link None q h = absurd (omega arith)
+named_link (Some r) q h = ap Some (hit_pos r q (omega arith))
 
 timed-length : (rule : Rule) (span : ℕ → ℕ) (o s : List ℕ) → length (timed rule span o s) ≡ length s
 unfolding timed
@@ -81,18 +80,18 @@ module _ (p : Problem) (g : Genes) (ok : Accepted p g) {rows : List (List ℕ)} 
   way_small = omega (arith, way_is, ok.transport from m hf hm)
 
 -- The start as it is worked out.
-pub start_now_lem : (p : Problem) (before machines ends : List ℕ) (a : ℕ) {line step : Link} {from way r : ℕ} → line ≡ link_of before a → step ≡ task_pred p a
+pub start_now_lem : (p : Problem) (before machines ends : List ℕ) (a : ℕ) {line step : Option ℕ} {from way r : ℕ} → line ≡ link_of before a → step ≡ task_pred p a
     → from ≡ machine_before step (λ q. get_or machines q 0) → way ≡ p.transport from (get_or machines a 0)
     → r ≡ start_after p a line step way (λ q. get_or ends q 0) → r ≡ start_now p before machines ends a
 start_now_lem p before machines ends a {line} {step} {from} {way} el es ef ew e =
-    e ∙ ap (λ (l : Link). start_after p a l step way (λ q. get_or ends q 0)) el
-    ∙ ap (λ (s : Link). start_after p a (link_of before a) s way (λ q. get_or ends q 0)) es
+    e ∙ ap (λ (l : Option ℕ). start_after p a l step way (λ q. get_or ends q 0)) el
+    ∙ ap (λ (s : Option ℕ). start_after p a (link_of before a) s way (λ q. get_or ends q 0)) es
     ∙ ap (λ (w : ℕ). start_after p a (link_of before a) (task_pred p a) w (λ q. get_or ends q 0))
-    (ew ∙ ap (λ (f : ℕ). p.transport f (get_or machines a 0)) (ef ∙ ap (λ (s : Link). machine_before s (λ q. get_or machines q 0)) es))
+    (ew ∙ ap (λ (f : ℕ). p.transport f (get_or machines a 0)) (ef ∙ ap (λ (s : Option ℕ). machine_before s (λ q. get_or machines q 0)) es))
 
-pub span_now_lem : (p : Problem) (before machines : List ℕ) (a : ℕ) {line : Link} {r : ℕ} → line ≡ link_of before a
+pub span_now_lem : (p : Problem) (before machines : List ℕ) (a : ℕ) {line : Option ℕ} {r : ℕ} → line ≡ link_of before a
     → r ≡ span_of p a (get_or machines a 0) (setup_of p a (get_or machines a 0) line) → r ≡ span_now p before machines a
-span_now_lem p before machines a el e = e ∙ ap (λ (l : Link). span_of p a (get_or machines a 0) (setup_of p a (get_or machines a 0) l)) el
+span_now_lem p before machines a el e = e ∙ ap (λ (l : Option ℕ). span_of p a (get_or machines a 0) (setup_of p a (get_or machines a 0) l)) el
 
 -- ---- along the order
 
@@ -111,17 +110,17 @@ module _ (p : Problem) (g : Genes) (ok : Accepted p g) (lines : Lines) (w : Well
   on_machine_lem : (a : ℕ) → a < p.n → get_or machines a 0 < p.machines
   on_machine_lem a h = omega (arith, seated.on a h, machine_below w a h)
 
-  from_step : (s : Link) → Below p.n (linked s) → machine_before s (λ q. get_or machines q 0) < p.machines
+  from_step : (s : Option ℕ) → Below p.n (linked s) → machine_before s (λ q. get_or machines q 0) < p.machines
   unfolding Below
-  from_step Nothing b = omega (arith, ok.machines.0)
-  from_step (To q) b = on_machine_lem q b.0
+  from_step None b = omega (arith, ok.machines.0)
+  from_step (Some q) b = on_machine_lem q b.0
 
   -- The start by what the arrays hold is the rule's, over the ends so far; the span too.
   start_is : (ends : List ℕ) (a : ℕ) → a < p.n → start_now p before machines ends a ≡ start_by p lines a (λ q. get_or ends q 0)
   start_is ends a here =
       ap (greatest at (p.predecessors a))
       (greatest-same (λ q. at q + way) (λ q. at q + way_to p lines q a) (linked (task_pred p a)) _ _
-      (ap (λ (l : Link). greatest at (linked l) (p.release a)) (seated.preds a here))
+      (ap (λ (l : Option ℕ). greatest at (linked l) (p.release a)) (seated.preds a here))
       (λ q l. ap (λ (x : ℕ). at q + x) (way_to' q l)))
     where
       at : ℕ → ℕ
@@ -133,17 +132,17 @@ module _ (p : Problem) (g : Genes) (ok : Accepted p g) (lines : Lines) (w : Well
       way_to' : (q : ℕ) → 0 < count_of q (linked (task_pred p a)) → way ≡ way_to p lines q a
       way_to' q l =
           ap₂ p.transport
-          (ap (λ (s : Link). machine_before s (λ r. get_or machines r 0)) (named_link (task_pred p a) q l)
+          (ap (λ (s : Option ℕ). machine_before s (λ r. get_or machines r 0)) (named_link (task_pred p a) q l)
           ∙ seated.on q (below_of p.n q (linked (task_pred p a)) (pred_below p g ok a here) l))
           (seated.on a here)
 
   span_is : (a : ℕ) → a < p.n → span_now p before machines a ≡ span_at p lines a
-  span_is a here = ap₂ (λ (m : ℕ) (l : Link). span_of p a m (setup_of p a m l)) (seated.on a here) (seated.preds a here)
+  span_is a here = ap₂ (λ (m : ℕ) (l : Option ℕ). span_of p a m (setup_of p a m l)) (seated.on a here) (seated.preds a here)
 
   few : length (timing_order p lines) ≤ p.n
   few = at_most_n (graph (shop p g ok lines w)) (counts_for p lines) (counted p g ok lines w)
 
-  has_link : (link : Link) (q : ℕ) → link ≡ To q → 0 < count_of q (linked link)
+  has_link : (link : Option ℕ) (q : ℕ) → link ≡ Some q → 0 < count_of q (linked link)
   unfolding count_of
   has_link link q e = rw e (omega (arith, hit-eq q q refl))
 

@@ -1,4 +1,5 @@
 -- On timed lines no step ends before the one that it follows in its task.
+use Rattle.std.specs.Prelude.{Some}
 use Prim.Native.Nat.{ℕ, suc, ◌+◌, ◌≤◌, ◌<◌}
 use mathlib.Core.Path.{◌≡◌, sym, ap, ◌∙◌}
 use mathlib.Core.Bool.{Bool, false}
@@ -8,7 +9,6 @@ use native.Mathlib.Numerals.{add-one}
 use borrow.Author.Tests.{le-ltb, eq-eqb}
 use lib.ListN.{length, get_or}
 use Rattle.graph.specs.Links.{to_if}
-use Rattle.graph.specs.declared.Link.TheVariants.{To}
 use Rattle.plan.specs.Problem.{Problem, Genes}
 use Rattle.plan.specs.Accepted.{Accepted}
 use Rattle.tables.specs.Tabled.{task_pred}
@@ -22,7 +22,7 @@ use Rattle.timing.proofs.Demand3.{timing_exact}
 pub whole_agrees : (p : Problem) (lines : Lines) {order : List ℕ} → Whole p lines order → contradicts p lines ≡ false
 whole_agrees p lines w = le-ltb (length (timing_order p lines)) p.n (omega (arith, ap length w.is, w.all))
 
-step_before : (p : Problem) (a : ℕ) → p.task_of a ≡ p.task_of (a + 1) → task_pred p (a + 1) ≡ To a
+step_before : (p : Problem) (a : ℕ) → p.task_of a ≡ p.task_of (a + 1) → task_pred p (a + 1) ≡ Some a
 step_before p a e =
     let next : a + 1 ≡ suc a = add-one a in
     ap (task_pred p) next ∙ ap (λ (t : Bool). to_if t a) (eq-eqb (p.task_of a) (p.task_of (suc a)) (e ∙ ap p.task_of next))

@@ -1,4 +1,5 @@
 -- From links, the order and the placing to what is said of timed lines.
+use Rattle.std.specs.Prelude.{Option, ℕ}
 use Prim.Native.Nat.{ℕ, ◌+◌, ◌≤◌, ◌<◌}
 use mathlib.Core.Path.{◌≡◌, refl, sym, ap, ap₂, ◌∙◌}
 use mathlib.Core.Bool.{Bool, true, false, not}
@@ -15,7 +16,6 @@ use Rattle.graph.proofs.CountingLaws.{either}
 use Rattle.plan.specs.Problem.{Problem, Genes}
 use Rattle.plan.specs.Accepted.{Accepted}
 use Rattle.bounds.specs.Bounds.{setup_of}
-use Rattle.graph.specs.declared.Link.{Link}
 use Rattle.lines.specs.Lines.{Lines, WellFormed, line_pred, line_succ, machine_of}
 use Rattle.lines.specs.Linking.{Links, LinesHeld, links_of}
 use Rattle.lines.proofs.LineLaws.{machine_below}

@@ -1,10 +1,8 @@
 -- How activities are placed along the timing order: what one placing asks of its slices, and what all of them leave.
-use Rattle.std.specs.Prelude.{ℕ, ◌+◌, ◌≤◌, ◌<◌, ◌^◌, ◌≡◌, List, length, get_or}
+use Rattle.std.specs.Prelude.{ℕ, ◌+◌, ◌≤◌, ◌<◌, ◌^◌, ◌≡◌, List, length, get_or, Some, None, Option}
 use Rattle.graph.specs.Counting.{Below}
 use Rattle.graph.specs.Links.{linked, link_of}
 use Rattle.graph.specs.Shop.{greatest}
-use Rattle.graph.specs.declared.Link.{Link}
-use Rattle.graph.specs.declared.Link.TheVariants.{To, Nothing}
 use Rattle.plan.specs.Problem.{Problem}
 use Rattle.tables.specs.Found.{Held}
 use Rattle.tables.specs.Tabled.{task_pred}
@@ -13,19 +11,19 @@ use Rattle.lines.specs.Lines.{Lines, line_pred, machine_of}
 use Rattle.timing.specs.Timing.{timing_order, starts_of, ends_of}
 
 -- The machine of the step before; 0, which binds nothing, where there is none.
-abbrev pub machine_before : Link → (on : ℕ → ℕ) → ℕ
-machine_before Nothing on = 0
-machine_before (To q) on = on q
+abbrev pub machine_before : Option ℕ → (on : ℕ → ℕ) → ℕ
+machine_before None on = 0
+machine_before (Some q) on = on q
 
 -- The start that the ends of the others allow, after `line` on its machine and `step` in its task, with the way from that one's machine.
-abbrev pub start_after : Problem → (activity : ℕ) → (line step : Link) → (way : ℕ) → (ends : ℕ → ℕ) → ℕ
+abbrev pub start_after : Problem → (activity : ℕ) → (line step : Option ℕ) → (way : ℕ) → (ends : ℕ → ℕ) → ℕ
 start_after p a line step way ends =
     greatest ends (p.predecessors a) (greatest (λ q. ends q + way) (linked step) (greatest ends (linked line) (p.release a)))
 
 -- A link leads to one of so many ends, which can be reckoned with.
-pub record Ending (ends : List ℕ) (link : Link) : Type 0 where
+pub record Ending (ends : List ℕ) (link : Option ℕ) : Type 0 where
   pub known : Below (length ends) (linked link)
-  pub small : (t : ℕ) → link ≡ To t → get_or ends t 0 < 2 ^ 62
+  pub small : (t : ℕ) → link ≡ Some t → get_or ends t 0 < 2 ^ 62
 
 -- The start and the end of an activity by what is known of the others: who stands before it on its line, the machines, and the ends so far.
 abbrev pub start_now : Problem → (before machines ends : List ℕ) → (activity : ℕ) → ℕ

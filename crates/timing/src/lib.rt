@@ -19,7 +19,6 @@ ghost use Rattle.lines.specs.Linking.{LinesHeld, links_of};
 ghost use Rattle.timing.specs.Timing.{contradicts};
 ghost use Rattle.timing.specs.Placing.{Seated, Placement, Timed, Rooms};
 
-use graph::Link;
 use placing::place;
 pub use placing::{fill_setups, machine_before, span_after, start_after};
 use plan::Layout;
@@ -59,7 +58,7 @@ fn line_waits(before: &[usize], a: usize) -> usize
     requires { a < length before.now }
     ensures { result ≡ length (linked (link_of before.now a)) }
 {
-    let Link::To(_) = graph::link_of(before, a) else {
+    let Some(_) = graph::link_of(before, a) else {
         return 0;
     };
     1

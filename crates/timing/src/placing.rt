@@ -14,22 +14,21 @@ ghost use Rattle.timing.specs.Timing.{setups_of};
 ghost use Rattle.timing.specs.Placing.{machine_before, start_after, Ending, Bound, Seated, Placeable, start_now, end_now};
 
 use crate::after_named;
-use graph::Link;
 use plan::Layout;
 
 // The machine of the step before; 0 where there is none.
-pub fn machine_before(step: Link, machines: &[usize]) -> usize
+pub fn machine_before(step: Option<usize>, machines: &[usize]) -> usize
     requires { Below (length machines.now) (linked step) }
     ensures { result ≡ machine_before step (λ q. get_or machines.now q 0) }
 {
-    let Link::To(q) = step else {
+    let Some(q) = step else {
         return 0;
     };
     machines[q]
 }
 
 // How long an activity takes on a machine after another.
-pub fn span_after(s: &[u8], z: Layout, table: &[usize], a: usize, m: usize, line: Link) -> u64
+pub fn span_after(s: &[u8], z: Layout, table: &[usize], a: usize, m: usize, line: Option<usize>) -> u64
     requires placed { Placed z × Accepted (problem_of (words s.now) z) (genes_of (words s.now) z) × Tabled (problem_of (words s.now) z) table.now }
     requires a_lt_activities { (a < z.activities) × (m < z.machines) × Below z.activities (linked line) }
     ensures { result ≡ span_of (problem_of (words s.now) z) a m (setup_of (problem_of (words s.now) z) a m line) }
@@ -40,7 +39,7 @@ pub fn span_after(s: &[u8], z: Layout, table: &[usize], a: usize, m: usize, line
 
 // The greatest of an activity's release, the end of the one before on its machine, the end of the step before plus the way from its machine,
 // and the ends of all that it names.
-pub fn start_after(table: &[usize], a: usize, line: Link, step: Link, way: u64, ends: &[u64]) -> u64
+pub fn start_after(table: &[usize], a: usize, line: Option<usize>, step: Option<usize>, way: u64, ends: &[u64]) -> u64
     requires { Bound table.now ends.now a × Ending ends.now line × Ending ends.now step × (way < 2 ^ 32) }
     ensures { (p : Problem) → Tabled p table.now → a < p.n → p.n ≤ 128 → result ≡ start_after p a line step way (λ q. get_or ends.now q 0) }
 {
@@ -52,7 +51,7 @@ pub fn start_after(table: &[usize], a: usize, line: Link, step: Link, way: u64, 
 }
 
 // How long an activity takes on a machine after another. Where there are no Setups entries (`own`) that is its own span.
-fn span_on(s: &[u8], z: Layout, table: &[usize], own: bool, a: usize, m: usize, line: Link) -> u64
+fn span_on(s: &[u8], z: Layout, table: &[usize], own: bool, a: usize, m: usize, line: Option<usize>) -> u64
     requires placed { Placed z × Accepted (problem_of (words s.now) z) (genes_of (words s.now) z) × Tabled (problem_of (words s.now) z) table.now × (own ≡ true → get_or (words s.now) z.at.setups 0 ≡ 0) }
     requires a_lt_activities { (a < z.activities) × (m < z.machines) × Below z.activities (linked line) }
     ensures { result ≡ span_of (problem_of (words s.now) z) a m (setup_of (problem_of (words s.now) z) a m line) }

@@ -1,9 +1,9 @@
 -- Six places are enough: they list what a list of every entry would list, at each step. Assumes nothing.
+use Rattle.std.specs.Prelude.{None, Option, Some}
 use Prim.Native.Nat.{ℕ, zero, suc, ◌+◌, ◌%◌, ◌≤◌, ◌<◌}
 use mathlib.Core.Path.{◌≡◌, refl, sym, ap, ◌∙◌}
 use mathlib.Core.Bool.{Bool, true, false, ◌&&◌, ◌||◌}
 use mathlib.Core.List.{List, [], ◌∷◌}
-use mathlib.Core.Option.{Option, none, some}
 use mathlib.Core.Logic.{◌⊎◌, inl, inr, ⊎_elim}
 use native.Mathlib.Omega.{arith}
 use borrow.Author.Tests.{le-ltb}
@@ -81,8 +81,8 @@ aged_one n x y places a =
 aged : (steps : List (Option Pairing)) → Aged (length steps) (six_places steps)
 unfolding six_places
 aged [] = aged_fresh
-aged (none ∷ steps) = aged_none (length steps) (six_places steps) (aged steps)
-aged (some p ∷ steps) = aged_one (length steps) p.first p.second (six_places steps) (aged steps)
+aged (None ∷ steps) = aged_none (length steps) (six_places steps) (aged steps)
+aged (Some p ∷ steps) = aged_one (length steps) p.first p.second (six_places steps) (aged steps)
 
 -- the place of a step is outdated then
 free-place : (n : ℕ) (places : List Taboo) → Aged n places → (get_or places (n % 6) outdated).until ≤ n
@@ -93,8 +93,8 @@ free-place n places a = ⊎_elim (λ z. omega arith) (λ r. omega (arith, r.0, r
 pub six-enough : (steps : List (Option Pairing)) (step x y : ℕ) → length steps ≤ step → listed step (six_places steps) x y ≡ listed step (all_entries steps) x y
 unfolding six_places all_entries listed
 six-enough [] step x y h = rw (le-ltb step 0 (omega arith))
-six-enough (none ∷ steps) step x y h = six-enough steps step x y (omega arith)
-six-enough (some p ∷ steps) step x y h =
+six-enough (None ∷ steps) step x y h = six-enough steps step x y (omega arith)
+six-enough (Some p ∷ steps) step x y h =
     let n = length steps in
     let t = entry p.first p.second (n + 6) in
     let a = aged steps in

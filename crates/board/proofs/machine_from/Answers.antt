@@ -10,11 +10,11 @@ pub returns-in_default : goal.returns-in_default
 returns-in_default c = from_none (genes_of (words c.args.s.now) c.args.z) c.in_default.is
 
 pub assigned-requires : goal.assigned-requires
-assigned-requires c = let h = link_names c.args.z.activities c.in-To.q c.in-To.is c.requires.1 in
+assigned-requires c = let h = link_names c.args.z.activities c.in-Some.q c.in-Some.is c.requires.1 in
     (c.requires.0, omega (arith, h, c.requires.0.activities))
 
 pub returns-in_default-assigned : goal.returns-in_default-assigned
-returns-in_default-assigned c = from_without (genes_of (words c.args.s.now) c.args.z) c.in-To.q c.in-To.is (sym c.in_default-assigned.is ∙ c.assigned.ensures)
+returns-in_default-assigned c = from_without (genes_of (words c.args.s.now) c.args.z) c.in-Some.q c.in-Some.is (sym c.in_default-assigned.is ∙ c.assigned.ensures)
 
 pub returns : goal.returns
-returns c = from_on (genes_of (words c.args.s.now) c.args.z) c.in-To.q c.in-On.m c.in-To.is (sym c.in-On.is ∙ c.assigned.ensures)
+returns c = from_on (genes_of (words c.args.s.now) c.args.z) c.in-Some.q c.in-Some.m c.in-Some.is (sym c.in-Some.is ∙ c.assigned.ensures)

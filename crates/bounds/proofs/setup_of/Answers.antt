@@ -24,4 +24,4 @@ returns-in_default c = let p = problem_of (words c.args.s.now) c.args.z in let e
 pub returns : goal.returns
 returns c = let p = problem_of (words c.args.s.now) c.args.z in let eo = c.category_of-own.ensures p c.requires.placed.2 c.requires.a_lt_activities.0 in
     let ep = c.category_before-previous.ensures p c.requires.placed.2 c.requires.a_lt_activities.2 in
-    entry_used p c.args.a c.args.m c.args.before ep eo (c.change_of-change.ensures p c.requires.placed.2) c.in-To.is
+    entry_used p c.args.a c.args.m c.args.before ep eo (c.change_of-change.ensures p c.requires.placed.2) c.in-Some.is

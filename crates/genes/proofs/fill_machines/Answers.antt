@@ -14,8 +14,8 @@ loop-a-preserved-in_default c = fill_without c.loop-a.invariant _ (cc) c.loop-a-
     (sym c.in_default.is ∙ c.assigned.ensures)
 
 pub loop-a-preserved : goal.loop-a-preserved
-loop-a-preserved c = fill_on c.loop-a.invariant c.in-On.m _ (omega arith) c.loop-a-test.true
-    (sym c.in-On.is ∙ c.assigned.ensures)
+loop-a-preserved c = fill_on c.loop-a.invariant c.in-Some.m _ (omega arith) c.loop-a-test.true
+    (sym c.in-Some.is ∙ c.assigned.ensures)
 
 pub shape_of-machines : goal.shape_of-machines
 shape_of-machines c = c.loop-a.invariant.sized

@@ -22,84 +22,84 @@ loop-k-preserved-in_default c = let w =
     index_unknown c.requires.1 c.loop-k.invariant w.0 w.1
 
 pub offset_bounds-named-t : goal.offset_bounds-named-t
-offset_bounds-named-t c = let known : Word (genes_of (words c.args.s.now) c.args.z) c.loop-k.k c.in-Task.t × (c.in-Task.t < c.args.z.tasks) = known_word (words c.args.s.now) c.args.z c.loop-k.k c.namings-namings.result c.namings-namings.ensures c.loop-k-test.true
-    c.in-Task.t (sym c.in-Task.is ∙ c.task_named.ensures) in
+offset_bounds-named-t c = let known : Word (genes_of (words c.args.s.now) c.args.z) c.loop-k.k c.in-Some.t × (c.in-Some.t < c.args.z.tasks) = known_word (words c.args.s.now) c.args.z c.loop-k.k c.namings-namings.result c.namings-namings.ensures c.loop-k-test.true
+    c.in-Some.t (sym c.in-Some.is ∙ c.task_named.ensures) in
     let w = known in
     omega (arith, c.requires.1.tasks.1)
 
 pub bounds-named-t : goal.bounds-named-t
-bounds-named-t c = let known : Word (genes_of (words c.args.s.now) c.args.z) c.loop-k.k c.in-Task.t × (c.in-Task.t < c.args.z.tasks) = known_word (words c.args.s.now) c.args.z c.loop-k.k c.namings-namings.result c.namings-namings.ensures c.loop-k-test.true
-    c.in-Task.t (sym c.in-Task.is ∙ c.task_named.ensures) in
+bounds-named-t c = let known : Word (genes_of (words c.args.s.now) c.args.z) c.loop-k.k c.in-Some.t × (c.in-Some.t < c.args.z.tasks) = known_word (words c.args.s.now) c.args.z c.loop-k.k c.namings-namings.result c.namings-namings.ensures c.loop-k-test.true
+    c.in-Some.t (sym c.in-Some.is ∙ c.task_named.ensures) in
     let w = known in
     omega (arith, c.requires.1.tasks.1)
 
 pub overflow_add-named : goal.overflow_add-named
-overflow_add-named c = let known : Word (genes_of (words c.args.s.now) c.args.z) c.loop-k.k c.in-Task.t × (c.in-Task.t < c.args.z.tasks) = known_word (words c.args.s.now) c.args.z c.loop-k.k c.namings-namings.result c.namings-namings.ensures c.loop-k-test.true
-    c.in-Task.t (sym c.in-Task.is ∙ c.task_named.ensures) in
+overflow_add-named c = let known : Word (genes_of (words c.args.s.now) c.args.z) c.loop-k.k c.in-Some.t × (c.in-Some.t < c.args.z.tasks) = known_word (words c.args.s.now) c.args.z c.loop-k.k c.namings-namings.result c.namings-namings.ensures c.loop-k-test.true
+    c.in-Some.t (sym c.in-Some.is ∙ c.task_named.ensures) in
     let w = known in
     omega (arith, named_few c.requires.1 c.loop-k.invariant w.0 w.1, w.0.left, c.requires.1.order)
 
 pub offset_bounds-named-t-in-loop-k : goal.offset_bounds-named-t-in-loop-k
-offset_bounds-named-t-in-loop-k c = let known : Word (genes_of (words c.args.s.now) c.args.z) c.loop-k.k c.in-Task.t × (c.in-Task.t < c.args.z.tasks) = known_word (words c.args.s.now) c.args.z c.loop-k.k c.namings-namings.result c.namings-namings.ensures c.loop-k-test.true
-    c.in-Task.t (sym c.in-Task.is ∙ c.task_named.ensures) in
+offset_bounds-named-t-in-loop-k c = let known : Word (genes_of (words c.args.s.now) c.args.z) c.loop-k.k c.in-Some.t × (c.in-Some.t < c.args.z.tasks) = known_word (words c.args.s.now) c.args.z c.loop-k.k c.namings-namings.result c.namings-namings.ensures c.loop-k-test.true
+    c.in-Some.t (sym c.in-Some.is ∙ c.task_named.ensures) in
     let w = known in
     omega (arith, c.requires.1.tasks.1)
 
 pub bounds-named-t-in-loop-k : goal.bounds-named-t-in-loop-k
-bounds-named-t-in-loop-k c = let known : Word (genes_of (words c.args.s.now) c.args.z) c.loop-k.k c.in-Task.t × (c.in-Task.t < c.args.z.tasks) = known_word (words c.args.s.now) c.args.z c.loop-k.k c.namings-namings.result c.namings-namings.ensures c.loop-k-test.true
-    c.in-Task.t (sym c.in-Task.is ∙ c.task_named.ensures) in
+bounds-named-t-in-loop-k c = let known : Word (genes_of (words c.args.s.now) c.args.z) c.loop-k.k c.in-Some.t × (c.in-Some.t < c.args.z.tasks) = known_word (words c.args.s.now) c.args.z c.loop-k.k c.namings-namings.result c.namings-namings.ensures c.loop-k-test.true
+    c.in-Some.t (sym c.in-Some.is ∙ c.task_named.ensures) in
     let w = known in
     omega (arith, c.requires.1.tasks.1)
 
 pub steps-steps-requires : goal.steps-steps-requires
-steps-steps-requires c = let known : Word (genes_of (words c.args.s.now) c.args.z) c.loop-k.k c.in-Task.t × (c.in-Task.t < c.args.z.tasks) = known_word (words c.args.s.now) c.args.z c.loop-k.k c.namings-namings.result c.namings-namings.ensures c.loop-k-test.true
-    c.in-Task.t (sym c.in-Task.is ∙ c.task_named.ensures) in
+steps-steps-requires c = let known : Word (genes_of (words c.args.s.now) c.args.z) c.loop-k.k c.in-Some.t × (c.in-Some.t < c.args.z.tasks) = known_word (words c.args.s.now) c.args.z c.loop-k.k c.namings-namings.result c.namings-namings.ensures c.loop-k-test.true
+    c.in-Some.t (sym c.in-Some.is ∙ c.task_named.ensures) in
     let w = known in
     (c.requires.0, omega (arith, c.requires.1.tasks.1))
 
 pub offset_bounds-firsts-t : goal.offset_bounds-firsts-t
-offset_bounds-firsts-t c = let known : Word (genes_of (words c.args.s.now) c.args.z) c.loop-k.k c.in-Task.t × (c.in-Task.t < c.args.z.tasks) = known_word (words c.args.s.now) c.args.z c.loop-k.k c.namings-namings.result c.namings-namings.ensures c.loop-k-test.true
-    c.in-Task.t (sym c.in-Task.is ∙ c.task_named.ensures) in
+offset_bounds-firsts-t c = let known : Word (genes_of (words c.args.s.now) c.args.z) c.loop-k.k c.in-Some.t × (c.in-Some.t < c.args.z.tasks) = known_word (words c.args.s.now) c.args.z c.loop-k.k c.namings-namings.result c.namings-namings.ensures c.loop-k-test.true
+    c.in-Some.t (sym c.in-Some.is ∙ c.task_named.ensures) in
     let w = known in
     omega (arith, c.requires.1.tasks.1)
 
 pub bounds-firsts-t : goal.bounds-firsts-t
-bounds-firsts-t c = let known : Word (genes_of (words c.args.s.now) c.args.z) c.loop-k.k c.in-Task.t × (c.in-Task.t < c.args.z.tasks) = known_word (words c.args.s.now) c.args.z c.loop-k.k c.namings-namings.result c.namings-namings.ensures c.loop-k-test.true
-    c.in-Task.t (sym c.in-Task.is ∙ c.task_named.ensures) in
+bounds-firsts-t c = let known : Word (genes_of (words c.args.s.now) c.args.z) c.loop-k.k c.in-Some.t × (c.in-Some.t < c.args.z.tasks) = known_word (words c.args.s.now) c.args.z c.loop-k.k c.namings-namings.result c.namings-namings.ensures c.loop-k-test.true
+    c.in-Some.t (sym c.in-Some.is ∙ c.task_named.ensures) in
     let w = known in
     omega (arith, c.requires.1.tasks.1)
 
 pub overflow_add-activities : goal.overflow_add-activities
-overflow_add-activities c = let known : Word (genes_of (words c.args.s.now) c.args.z) c.loop-k.k c.in-Task.t × (c.in-Task.t < c.args.z.tasks) = known_word (words c.args.s.now) c.args.z c.loop-k.k c.namings-namings.result c.namings-namings.ensures c.loop-k-test.true
-    c.in-Task.t (sym c.in-Task.is ∙ c.task_named.ensures) in
-    let fewer : get_or c.loop-k.named c.in-Task.t 0 < (problem_of (words c.args.s.now) c.args.z).steps c.in-Task.t = omega (arith, c.if-nth-steps.true, c.steps-steps.ensures) in
+overflow_add-activities c = let known : Word (genes_of (words c.args.s.now) c.args.z) c.loop-k.k c.in-Some.t × (c.in-Some.t < c.args.z.tasks) = known_word (words c.args.s.now) c.args.z c.loop-k.k c.namings-namings.result c.namings-namings.ensures c.loop-k-test.true
+    c.in-Some.t (sym c.in-Some.is ∙ c.task_named.ensures) in
+    let fewer : get_or c.loop-k.named c.in-Some.t 0 < (problem_of (words c.args.s.now) c.args.z).steps c.in-Some.t = omega (arith, c.if-nth-steps.true, c.steps-steps.ensures) in
     let w = known in
     omega (arith, activity_known c.requires.1 c.loop-k.invariant w.0 w.1 fewer, c.requires.0.activities)
 
 pub offset_bounds-activities-count : goal.offset_bounds-activities-count
-offset_bounds-activities-count c = let known : Word (genes_of (words c.args.s.now) c.args.z) c.loop-k.k c.in-Task.t × (c.in-Task.t < c.args.z.tasks) = known_word (words c.args.s.now) c.args.z c.loop-k.k c.namings-namings.result c.namings-namings.ensures c.loop-k-test.true
-    c.in-Task.t (sym c.in-Task.is ∙ c.task_named.ensures) in
-    let fewer : get_or c.loop-k.named c.in-Task.t 0 < (problem_of (words c.args.s.now) c.args.z).steps c.in-Task.t = omega (arith, c.if-nth-steps.true, c.steps-steps.ensures) in
+offset_bounds-activities-count c = let known : Word (genes_of (words c.args.s.now) c.args.z) c.loop-k.k c.in-Some.t × (c.in-Some.t < c.args.z.tasks) = known_word (words c.args.s.now) c.args.z c.loop-k.k c.namings-namings.result c.namings-namings.ensures c.loop-k-test.true
+    c.in-Some.t (sym c.in-Some.is ∙ c.task_named.ensures) in
+    let fewer : get_or c.loop-k.named c.in-Some.t 0 < (problem_of (words c.args.s.now) c.args.z).steps c.in-Some.t = omega (arith, c.if-nth-steps.true, c.steps-steps.ensures) in
     let w = known in
     omega (arith, has_room c.requires.1 c.loop-k.invariant w.0 w.1 fewer, c.requires.0.activities)
 
 pub bounds-activities-count : goal.bounds-activities-count
-bounds-activities-count c = let known : Word (genes_of (words c.args.s.now) c.args.z) c.loop-k.k c.in-Task.t × (c.in-Task.t < c.args.z.tasks) = known_word (words c.args.s.now) c.args.z c.loop-k.k c.namings-namings.result c.namings-namings.ensures c.loop-k-test.true
-    c.in-Task.t (sym c.in-Task.is ∙ c.task_named.ensures) in
-    let fewer : get_or c.loop-k.named c.in-Task.t 0 < (problem_of (words c.args.s.now) c.args.z).steps c.in-Task.t = omega (arith, c.if-nth-steps.true, c.steps-steps.ensures) in
+bounds-activities-count c = let known : Word (genes_of (words c.args.s.now) c.args.z) c.loop-k.k c.in-Some.t × (c.in-Some.t < c.args.z.tasks) = known_word (words c.args.s.now) c.args.z c.loop-k.k c.namings-namings.result c.namings-namings.ensures c.loop-k-test.true
+    c.in-Some.t (sym c.in-Some.is ∙ c.task_named.ensures) in
+    let fewer : get_or c.loop-k.named c.in-Some.t 0 < (problem_of (words c.args.s.now) c.args.z).steps c.in-Some.t = omega (arith, c.if-nth-steps.true, c.steps-steps.ensures) in
     let w = known in
     omega (arith, has_room c.requires.1 c.loop-k.invariant w.0 w.1 fewer, c.loop-k.invariant.sized, c.requires.2)
 
 pub loop-k-preserved-then-nth-steps : goal.loop-k-preserved-then-nth-steps
-loop-k-preserved-then-nth-steps c = let known : Word (genes_of (words c.args.s.now) c.args.z) c.loop-k.k c.in-Task.t × (c.in-Task.t < c.args.z.tasks) = known_word (words c.args.s.now) c.args.z c.loop-k.k c.namings-namings.result c.namings-namings.ensures c.loop-k-test.true
-    c.in-Task.t (sym c.in-Task.is ∙ c.task_named.ensures) in
-    let fewer : get_or c.loop-k.named c.in-Task.t 0 < (problem_of (words c.args.s.now) c.args.z).steps c.in-Task.t = omega (arith, c.if-nth-steps.true, c.steps-steps.ensures) in
+loop-k-preserved-then-nth-steps c = let known : Word (genes_of (words c.args.s.now) c.args.z) c.loop-k.k c.in-Some.t × (c.in-Some.t < c.args.z.tasks) = known_word (words c.args.s.now) c.args.z c.loop-k.k c.namings-namings.result c.namings-namings.ensures c.loop-k-test.true
+    c.in-Some.t (sym c.in-Some.is ∙ c.task_named.ensures) in
+    let fewer : get_or c.loop-k.named c.in-Some.t 0 < (problem_of (words c.args.s.now) c.args.z).steps c.in-Some.t = omega (arith, c.if-nth-steps.true, c.steps-steps.ensures) in
     let w = known in
-    index_taken c.requires.1 c.loop-k.invariant w.0 w.1 fewer _ (omega (arith, c.loop-k.invariant.starts c.in-Task.t w.1)) c.requires.2
+    index_taken c.requires.1 c.loop-k.invariant w.0 w.1 fewer _ (omega (arith, c.loop-k.invariant.starts c.in-Some.t w.1)) c.requires.2
 
 pub loop-k-preserved : goal.loop-k-preserved
-loop-k-preserved c = let known : Word (genes_of (words c.args.s.now) c.args.z) c.loop-k.k c.in-Task.t × (c.in-Task.t < c.args.z.tasks) = known_word (words c.args.s.now) c.args.z c.loop-k.k c.namings-namings.result c.namings-namings.ensures c.loop-k-test.true
-    c.in-Task.t (sym c.in-Task.is ∙ c.task_named.ensures) in
+loop-k-preserved c = let known : Word (genes_of (words c.args.s.now) c.args.z) c.loop-k.k c.in-Some.t × (c.in-Some.t < c.args.z.tasks) = known_word (words c.args.s.now) c.args.z c.loop-k.k c.namings-namings.result c.namings-namings.ensures c.loop-k-test.true
+    c.in-Some.t (sym c.in-Some.is ∙ c.task_named.ensures) in
     let w = known in
     index_surplus c.requires.1 c.loop-k.invariant w.0 w.1 (omega (arith, c.if-nth-steps.false, c.steps-steps.ensures))
 

@@ -22,5 +22,5 @@ pub returns : goal.returns
 returns c = let late : ℕ → Bool = λ x. eqb (get_or c.args.ends.now x 0 + c.args.way) c.args.start in
     let there : ℕ → Bool = λ x. eqb (get_or c.args.ends.now x 0) c.args.start in
     λ p t h f.
-    first_to (meeting late c.args.task) (first_meeting there (p.predecessors c.args.a)) c.in-To.b
-    (sym c.meeting.ensures ∙ c.in-To.is)
+    first_to (meeting late c.args.task) (first_meeting there (p.predecessors c.args.a)) c.in-Some.b
+    (sym c.meeting.ensures ∙ c.in-Some.is)

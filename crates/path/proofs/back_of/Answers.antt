@@ -1,4 +1,5 @@
 -- `path::back_of` meets its contract: the line predecessor if it ends at this start, else what the plan gives.
+use Rattle.std.specs.Prelude.{Option, ℕ}
 use Prim.Native.Nat.{ℕ, ◌+◌}
 use mathlib.Core.Path.{◌≡◌, sym, ap, ◌∙◌}
 use mathlib.Core.Bool.{Bool}
@@ -9,7 +10,6 @@ use lib.Dec.{eqb}
 use lib.ListN.{length, get_or}
 use Rattle.graph.specs.Counting.{Below}
 use Rattle.graph.specs.Links.{linked, link_of}
-use Rattle.graph.specs.declared.Link.{Link}
 use Rattle.graph.proofs.LinkedLaws.{link_below}
 use Rattle.path.specs.Path.{or_else, meeting, first_meeting}
 use Rattle.path.proofs.MeetingLaws.{second, first_to}
@@ -17,7 +17,7 @@ use Rattle.path.proofs.BackLaws.{meeting-same}
 use Rattle.path.proofs.back_of.Goals as goal
 
 -- No way is added to the end of a line predecessor.
-no_way : (ends : List ℕ) (start : ℕ) (l : Link) → meeting (λ b. eqb (get_or ends b 0) start) l ≡ meeting (λ b. eqb (get_or ends b 0 + 0) start) l
+no_way : (ends : List ℕ) (start : ℕ) (l : Option ℕ) → meeting (λ b. eqb (get_or ends b 0) start) l ≡ meeting (λ b. eqb (get_or ends b 0 + 0) start) l
 no_way ends start l =
     meeting-same (λ b. eqb (get_or ends b 0) start) (λ b. eqb (get_or ends b 0 + 0) start) l (λ b e. ap (λ (x : ℕ). eqb x start) (omega arith))
 
@@ -43,5 +43,5 @@ returns c = let start = get_or c.args.starts.now c.args.a 0 in
     let there : ℕ → Bool = λ b. eqb (get_or c.args.ends.now b 0) start in
     let late : ℕ → Bool = λ b. eqb (get_or c.args.ends.now b 0 + c.args.way) start in
     λ p t h f.
-    first_to (meeting there (link_of c.args.before.now c.args.a)) (or_else (meeting late c.args.task) (first_meeting there (p.predecessors c.args.a))) c.in-To.b
-    (ap (meeting there) (sym c.link_of-line.ensures) ∙ no_way c.args.ends.now start c.link_of-line.result ∙ sym c.meeting.ensures ∙ c.in-To.is)
+    first_to (meeting there (link_of c.args.before.now c.args.a)) (or_else (meeting late c.args.task) (first_meeting there (p.predecessors c.args.a))) c.in-Some.b
+    (ap (meeting there) (sym c.link_of-line.ensures) ∙ no_way c.args.ends.now start c.link_of-line.result ∙ sym c.meeting.ensures ∙ c.in-Some.is)

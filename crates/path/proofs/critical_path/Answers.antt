@@ -58,11 +58,11 @@ back_of-requires c = let k = c.loop-b.invariant.1 c.requires.0.problem c.require
 
 pub loop-b-preserved : goal.loop-b-preserved
 loop-b-preserved c = let k = c.loop-b.invariant.1 c.requires.0.problem c.requires.0.lines c.requires.0.walkable in
-    let next : (p : Problem) (lines : Lines) (v : Walkable p lines c.args.table.now c.args.before.now c.args.machines.now c.args.ways.now (placed c.args.order.now c.args.starts.now c.args.ends.now)) → Walking p lines (placed c.args.order.now c.args.starts.now c.args.ends.now) v.falling.rank (set c.loop-b.path (c.loop-b.at - 1) c.loop-b.a) c.in-To.b (c.loop-b.at - 1) =
+    let next : (p : Problem) (lines : Lines) (v : Walkable p lines c.args.table.now c.args.before.now c.args.machines.now c.args.ways.now (placed c.args.order.now c.args.starts.now c.args.ends.now)) → Walking p lines (placed c.args.order.now c.args.starts.now c.args.ends.now) v.falling.rank (set c.loop-b.path (c.loop-b.at - 1) c.loop-b.a) c.in-Some.b (c.loop-b.at - 1) =
     λ p lines v.
     let q = c.loop-b.invariant.1 p lines v in
-    goes v q c.loop-b.invariant.0.within c.in-To.b
-    (sym c.in-To.is ∙ back_is v c.loop-b.a q.known (c.before_of-task.ensures p v.shown.tabled q.known) c.machine_before-from.ensures c.wide-way.ensures.0 (c.back_of.ensures p v.shown.tabled q.known v.shown.few)) in
+    goes v q c.loop-b.invariant.0.within c.in-Some.b
+    (sym c.in-Some.is ∙ back_is v c.loop-b.a q.known (c.before_of-task.ensures p v.shown.tabled q.known) c.machine_before-from.ensures c.wide-way.ensures.0 (c.back_of.ensures p v.shown.tabled q.known v.shown.few)) in
     let n = next c.requires.0.problem c.requires.0.lines c.requires.0.walkable in (
       record {
         room = omega (arith, n.high);

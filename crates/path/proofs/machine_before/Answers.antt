@@ -8,11 +8,11 @@ pub returns-in_default : goal.returns-in_default
 returns-in_default c = rw c.in_default.is
 
 pub offset_bounds-machines-b : goal.offset_bounds-machines-b
-offset_bounds-machines-b c = let h = link_names (length c.args.machines.now) c.in-To.b c.in-To.is c.requires.0 in
+offset_bounds-machines-b c = let h = link_names (length c.args.machines.now) c.in-Some.b c.in-Some.is c.requires.0 in
     omega arith
 
 pub bounds-machines-b : goal.bounds-machines-b
-bounds-machines-b c = link_names (length c.args.machines.now) c.in-To.b c.in-To.is c.requires.0
+bounds-machines-b c = link_names (length c.args.machines.now) c.in-Some.b c.in-Some.is c.requires.0
 
 pub returns : goal.returns
-returns c = rw c.in-To.is
+returns c = rw c.in-Some.is

@@ -1,10 +1,10 @@
 -- `reassign::head_of` meets its contract. The greatest over those named, then over the step before, is that over both.
+use Rattle.std.specs.Prelude.{Option, ℕ}
 use mathlib.Core.Path.{ap, ap₂, ◌∙◌}
 use Prim.Native.Nat.{ℕ, max}
 use native.Mathlib.Omega.{arith}
 use lib.ListN.{length, get_or}
 use Rattle.graph.specs.Shop.{greatest}
-use Rattle.graph.specs.declared.Link.{Link}
 use Rattle.tables.specs.Tabled.{task_pred}
 use Rattle.bounds.specs.Bounds.{arrival_of}
 use Rattle.path.proofs.NeighbourLaws.{pred_below}
@@ -22,4 +22,4 @@ returns c p starts tabled known few = let f : ℕ → ℕ = λ x. get_or c.args.
     let step = task_pred p c.args.a in
     greatest_then f (p.predecessors c.args.a) step (p.release c.args.a)
     (c.after_named-named.ensures ∙ ap₂ (greatest f) (c.named_by.ensures p tabled known few) (c.release_of-released.ensures p tabled known))
-    (c.later.ensures ∙ ap (max c.after_named-named.result) (c.arrival-there.ensures ∙ ap (λ (l : Link). arrival_of l f 0) (c.before_of.ensures p tabled known)) ∙ arrival_greatest f step c.after_named-named.result)
+    (c.later.ensures ∙ ap (max c.after_named-named.result) (c.arrival-there.ensures ∙ ap (λ (l : Option ℕ). arrival_of l f 0) (c.before_of.ensures p tabled known)) ∙ arrival_greatest f step c.after_named-named.result)

@@ -46,11 +46,11 @@ loop-i-preserved-in_default c = let none = sym c.room_on-room.ensures ∙ c.in_d
 )
 
 pub loop-i-preserved-then-not-enters : goal.loop-i-preserved-then-not-enters
-loop-i-preserved-then-not-enters c = let one = sym c.room_on-room.ensures ∙ c.in-At.is in
-    let out = stays_out c.loop-i.best (rated_at c.args.leaving (get_or c.args.candidates.now c.loop-i.i 0) c.own_span-time.result c.in-At.spot) c.loop-i.invariant.1 (sym c.enters.ensures ∙ c.if-not-enters.true) in (
+loop-i-preserved-then-not-enters c = let one = sym c.room_on-room.ensures ∙ c.in-Some.is in
+    let out = stays_out c.loop-i.best (rated_at c.args.leaving (get_or c.args.candidates.now c.loop-i.i 0) c.own_span-time.result c.in-Some.spot) c.loop-i.invariant.1 (sym c.enters.ensures ∙ c.if-not-enters.true) in (
       omega arith,
       c.loop-i.invariant.1,
-      λ p able. offering_one (c.loop-i.invariant.2 p able) c.loop-i-test.true (one_there p (lines_in c.args.cells.now c.args.lens.now) (unordered c.args.starts.now c.args.ends.now) c.args.tail.now c.args.leaving (get_or c.args.candidates.now c.loop-i.i 0) c.if-to-leaving.false (c.own_span-time.ensures p able.tabled able.known (machine_in_lem c.loop-i.i able c.loop-i-test.true)) c.in-At.spot one) out c.loop-i.invariant.1,
+      λ p able. offering_one (c.loop-i.invariant.2 p able) c.loop-i-test.true (one_there p (lines_in c.args.cells.now c.args.lens.now) (unordered c.args.starts.now c.args.ends.now) c.args.tail.now c.args.leaving (get_or c.args.candidates.now c.loop-i.i 0) c.if-to-leaving.false (c.own_span-time.ensures p able.tabled able.known (machine_in_lem c.loop-i.i able c.loop-i-test.true)) c.in-Some.spot one) out c.loop-i.invariant.1,
     )
 
 pub keep-best-requires : goal.keep-best-requires
@@ -60,11 +60,11 @@ pub loop-i-smaller : goal.loop-i-smaller
 loop-i-smaller c = omega (arith, c.loop-i-test.true)
 
 pub loop-i-preserved : goal.loop-i-preserved
-loop-i-preserved c = let one = sym c.room_on-room.ensures ∙ c.in-At.is in
+loop-i-preserved c = let one = sym c.room_on-room.ensures ∙ c.in-Some.is in
     let kept = c.keep-best.ensures.result_value ∙ ap (λ (x : Rated). with_one x (ranked c.loop-i.best)) c.rated_at.ensures in (
       omega (arith, c.loop-i-test.true),
       c.keep-best.ensures.count_bound,
-      λ p able. offering_one (c.loop-i.invariant.2 p able) c.loop-i-test.true (one_there p (lines_in c.args.cells.now c.args.lens.now) (unordered c.args.starts.now c.args.ends.now) c.args.tail.now c.args.leaving (get_or c.args.candidates.now c.loop-i.i 0) c.if-to-leaving.false (c.own_span-time.ensures p able.tabled able.known (machine_in_lem c.loop-i.i able c.loop-i-test.true)) c.in-At.spot one) kept c.keep-best.ensures.count_bound,
+      λ p able. offering_one (c.loop-i.invariant.2 p able) c.loop-i-test.true (one_there p (lines_in c.args.cells.now c.args.lens.now) (unordered c.args.starts.now c.args.ends.now) c.args.tail.now c.args.leaving (get_or c.args.candidates.now c.loop-i.i 0) c.if-to-leaving.false (c.own_span-time.ensures p able.tabled able.known (machine_in_lem c.loop-i.i able c.loop-i-test.true)) c.in-Some.spot one) kept c.keep-best.ensures.count_bound,
     )
 
 pub returns : goal.returns

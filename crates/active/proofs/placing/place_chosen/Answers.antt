@@ -43,25 +43,25 @@ returns-in_default c = let e = place_end c.requires.placed.1 c.loop-seat.invaria
     record { board = e; order = place-listed c.requires.placed.1 c.loop-seat.invariant c.choose.ensures.choice c.choose.ensures.settled e refl }
 
 pub owner-task-requires : goal.owner-task-requires
-owner-task-requires c = let k = fine c.requires.placed.1 c.loop-seat.invariant c.choose.ensures.choice c.choose.ensures.settled c.in-Sits.seat c.in-Sits.is in
+owner-task-requires c = let k = fine c.requires.placed.1 c.loop-seat.invariant c.choose.ensures.choice c.choose.ensures.settled c.in-Some.seat c.in-Some.is in
     (omega (arith, k.here, c.requires.placed.1.activities.1), c.requires.placed.2.sized)
 
 pub sit-requires : goal.sit-requires
-sit-requires c = let k = fine c.requires.placed.1 c.loop-seat.invariant c.choose.ensures.choice c.choose.ensures.settled c.in-Sits.seat c.in-Sits.is in
-    sit_room (scan_sound c.requires.placed.1 c.loop-seat.invariant c.choose.ensures.choice c.choose.ensures.settled) _ _ k.here (omega (arith, k.there, c.requires.placed.1.machines.1)) (omega (arith, (c.owner-task.ensures (problem_of (words c.args.s.now) c.args.z) c.requires.placed.2 k.here), c.requires.placed.1.owner c.in-Sits.seat.activity k.here, c.requires.placed.1.tasks.1)) (has_room c.requires.placed.1 c.loop-seat.invariant c.choose.ensures.choice c.choose.ensures.settled c.in-Sits.seat c.in-Sits.is)
+sit-requires c = let k = fine c.requires.placed.1 c.loop-seat.invariant c.choose.ensures.choice c.choose.ensures.settled c.in-Some.seat c.in-Some.is in
+    sit_room (scan_sound c.requires.placed.1 c.loop-seat.invariant c.choose.ensures.choice c.choose.ensures.settled) _ _ k.here (omega (arith, k.there, c.requires.placed.1.machines.1)) (omega (arith, (c.owner-task.ensures (problem_of (words c.args.s.now) c.args.z) c.requires.placed.2 k.here), c.requires.placed.1.owner c.in-Some.seat.activity k.here, c.requires.placed.1.tasks.1)) (has_room c.requires.placed.1 c.loop-seat.invariant c.choose.ensures.choice c.choose.ensures.settled c.in-Some.seat c.in-Some.is)
 
 pub forget-requires : goal.forget-requires
-forget-requires c = let k = fine c.requires.placed.1 c.loop-seat.invariant c.choose.ensures.choice c.choose.ensures.settled c.in-Sits.seat c.in-Sits.is in
-    (c.choose.ensures.kept.sized, c.requires.placed.1.tasks.1, omega (arith, (c.owner-task.ensures (problem_of (words c.args.s.now) c.args.z) c.requires.placed.2 k.here), c.requires.placed.1.owner c.in-Sits.seat.activity k.here, c.requires.placed.1.tasks.1))
+forget-requires c = let k = fine c.requires.placed.1 c.loop-seat.invariant c.choose.ensures.choice c.choose.ensures.settled c.in-Some.seat c.in-Some.is in
+    (c.choose.ensures.kept.sized, c.requires.placed.1.tasks.1, omega (arith, (c.owner-task.ensures (problem_of (words c.args.s.now) c.args.z) c.requires.placed.2 k.here), c.requires.placed.1.owner c.in-Some.seat.activity k.here, c.requires.placed.1.tasks.1))
 
 pub overflow_add-count : goal.overflow_add-count
-overflow_add-count c = let h = more c.requires.placed.1 c.loop-seat.invariant c.choose.ensures.choice c.choose.ensures.settled c.in-Sits.seat c.in-Sits.is in
+overflow_add-count c = let h = more c.requires.placed.1 c.loop-seat.invariant c.choose.ensures.choice c.choose.ensures.settled c.in-Some.seat c.in-Some.is in
     omega (arith, h, c.requires.placed.1.activities.1)
 
 pub loop-seat-smaller : goal.loop-seat-smaller
-loop-seat-smaller c = let h = more c.requires.placed.1 c.loop-seat.invariant c.choose.ensures.choice c.choose.ensures.settled c.in-Sits.seat c.in-Sits.is in
+loop-seat-smaller c = let h = more c.requires.placed.1 c.loop-seat.invariant c.choose.ensures.choice c.choose.ensures.settled c.in-Some.seat c.in-Some.is in
     omega (arith, h)
 
 pub loop-seat-preserved : goal.loop-seat-preserved
-loop-seat-preserved c = let k = fine c.requires.placed.1 c.loop-seat.invariant c.choose.ensures.choice c.choose.ensures.settled c.in-Sits.seat c.in-Sits.is in
-    place_again c.requires.placed.1 c.loop-seat.invariant c.choose.ensures.choice c.choose.ensures.settled c.in-Sits.seat c.in-Sits.is c.choose.ensures.kept (c.owner-task.ensures (problem_of (words c.args.s.now) c.args.z) c.requires.placed.2 k.here) c.forget.ensures (c.sit.ensures.board (problem_of (words c.args.s.now) c.args.z) (c.owner-task.ensures (problem_of (words c.args.s.now) c.args.z) c.requires.placed.2 k.here)) c.sit.ensures.order
+loop-seat-preserved c = let k = fine c.requires.placed.1 c.loop-seat.invariant c.choose.ensures.choice c.choose.ensures.settled c.in-Some.seat c.in-Some.is in
+    place_again c.requires.placed.1 c.loop-seat.invariant c.choose.ensures.choice c.choose.ensures.settled c.in-Some.seat c.in-Some.is c.choose.ensures.kept (c.owner-task.ensures (problem_of (words c.args.s.now) c.args.z) c.requires.placed.2 k.here) c.forget.ensures (c.sit.ensures.board (problem_of (words c.args.s.now) c.args.z) (c.owner-task.ensures (problem_of (words c.args.s.now) c.args.z) c.requires.placed.2 k.here)) c.sit.ensures.order

@@ -9,4 +9,4 @@ pub returns-in_default : goal.returns-in_default
 returns-in_default c = rw (without_machine ((genes_of (words c.args.s.now) c.args.z).assigned c.args.a) (sym c.in_default.is ∙ c.assigned.ensures))
 
 pub returns : goal.returns
-returns c = rw (with_machine ((genes_of (words c.args.s.now) c.args.z).assigned c.args.a) c.in-On.m (sym c.in-On.is ∙ c.assigned.ensures))
+returns c = rw (with_machine ((genes_of (words c.args.s.now) c.args.z).assigned c.args.a) c.in-Some.m (sym c.in-Some.is ∙ c.assigned.ensures))

@@ -1,11 +1,11 @@
 -- `blocks::stretch::head_of` meets its contract: the release and the line first, then the task predecessor.
+use Rattle.std.specs.Prelude.{Option, ℕ}
 use Prim.Native.Nat.{ℕ, max}
 use mathlib.Core.Path.{ap, ◌∙◌}
 use lib.ListN.{get_or}
 use native.Mathlib.Omega.{arith}
 use Rattle.graph.specs.Links.{linked}
 use Rattle.graph.specs.Shop.{greatest}
-use Rattle.graph.specs.declared.Link.{Link}
 use Rattle.tables.specs.Tabled.{task_pred}
 use Rattle.path.proofs.NeighbourLaws.{pred_below}
 use Rattle.blocks.proofs.stretch.head_of.Goals as goal
@@ -24,5 +24,5 @@ returns c = λ p t h.
     let f : ℕ → ℕ = λ b. get_or c.args.ends.now b 0 in
     let free = c.greater-free.ensures ∙ ap (λ (y : ℕ). max y c.args.ready) (c.release_of.ensures p t h) in
     c.later_end.ensures
-    ∙ ap (λ (l : Link). greatest f (linked l) c.greater-free.result) (c.before_of.ensures p t h)
+    ∙ ap (λ (l : Option ℕ). greatest f (linked l) c.greater-free.result) (c.before_of.ensures p t h)
     ∙ ap (greatest f (linked (task_pred p c.args.x))) free

@@ -11,10 +11,10 @@ pub returns-in_default : goal.returns-in_default
 returns-in_default c = no_link (λ x. get_or c.args.ends.now x 0) c.args.first c.in_default.is
 
 pub offset_bounds-ends-x : goal.offset_bounds-ends-x
-offset_bounds-ends-x c = let h = link_names (length c.args.ends.now) c.in-To.x c.in-To.is c.requires in omega arith
+offset_bounds-ends-x c = let h = link_names (length c.args.ends.now) c.in-Some.x c.in-Some.is c.requires in omega arith
 
 pub bounds-ends-x : goal.bounds-ends-x
-bounds-ends-x c = let h = link_names (length c.args.ends.now) c.in-To.x c.in-To.is c.requires in omega arith
+bounds-ends-x c = let h = link_names (length c.args.ends.now) c.in-Some.x c.in-Some.is c.requires in omega arith
 
 pub returns : goal.returns
-returns c = c.greater.ensures ∙ one_linked (λ x. get_or c.args.ends.now x 0) c.in-To.x c.args.first c.in-To.is
+returns c = c.greater.ensures ∙ one_linked (λ x. get_or c.args.ends.now x 0) c.in-Some.x c.args.first c.in-Some.is

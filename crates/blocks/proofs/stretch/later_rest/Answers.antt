@@ -11,7 +11,7 @@ pub returns-in_default : goal.returns-in_default
 returns-in_default c = no_link (λ x. get_or c.args.ends.now x 0 - get_or c.args.starts.now x 0 + get_or c.args.tail.now x 0) c.args.first c.in_default.is
 
 pub span_and_tail-requires : goal.span_and_tail-requires
-span_and_tail-requires c = (link_names (length c.args.tail.now) c.in-To.x c.in-To.is c.requires.0, c.requires.1)
+span_and_tail-requires c = (link_names (length c.args.tail.now) c.in-Some.x c.in-Some.is c.requires.0, c.requires.1)
 
 pub returns : goal.returns
-returns c = c.greater.ensures ∙ ap (max c.args.first) c.span_and_tail.ensures ∙ one_linked (λ x. get_or c.args.ends.now x 0 - get_or c.args.starts.now x 0 + get_or c.args.tail.now x 0) c.in-To.x c.args.first c.in-To.is
+returns c = c.greater.ensures ∙ ap (max c.args.first) c.span_and_tail.ensures ∙ one_linked (λ x. get_or c.args.ends.now x 0 - get_or c.args.starts.now x 0 + get_or c.args.tail.now x 0) c.in-Some.x c.args.first c.in-Some.is

@@ -1,11 +1,11 @@
 -- `blocks::stretch::tail_of` meets its contract.
+use Rattle.std.specs.Prelude.{Option, ℕ}
 use Prim.Native.Nat.{◌+◌, ◌-◌}
 use mathlib.Core.Path.{ap, ◌∙◌}
 use lib.ListN.{get_or}
 use native.Mathlib.Omega.{arith}
 use Rattle.graph.specs.Links.{linked}
 use Rattle.graph.specs.Shop.{greatest}
-use Rattle.graph.specs.declared.Link.{Link}
 use Rattle.path.proofs.NeighbourLaws.{succ_below}
 use Rattle.blocks.proofs.stretch.tail_of.Goals as goal
 
@@ -17,4 +17,4 @@ later_rest-requires c = (rw (c.next_of.ensures c.requires.0.held.problem c.requi
 
 pub returns : goal.returns
 returns c = λ p t h k.
-    c.later_rest.ensures ∙ ap (λ (l : Link). greatest (λ b. get_or c.args.ends.now b 0 - get_or c.args.starts.now b 0 + get_or c.args.tail.now b 0) (linked l) c.args.next) (c.next_of.ensures p t k h)
+    c.later_rest.ensures ∙ ap (λ (l : Option ℕ). greatest (λ b. get_or c.args.ends.now b 0 - get_or c.args.starts.now b 0 + get_or c.args.tail.now b 0) (linked l) c.args.next) (c.next_of.ensures p t k h)

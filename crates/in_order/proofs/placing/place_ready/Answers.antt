@@ -62,8 +62,8 @@ offset_bounds-ways-from c = let p = problem_of (words c.args.s.now) c.args.z in
     let a = get_or c.args.ready.now c.loop-i.i 0 in
     let known = here c.loop-i.invariant c.loop-i-test.true in
     let es = c.step_of-step.ensures p c.requires.placed.2 known in
-    let em = sym c.in-On.is ∙ c.assigned.ensures in
-    let there = c.requires.placed.1.assigned a c.in-On.m (with_machine (g.assigned a) c.in-On.m em) in
+    let em = sym c.in-Some.is ∙ c.assigned.ensures in
+    let there = c.requires.placed.1.assigned a c.in-Some.m (with_machine (g.assigned a) c.in-Some.m em) in
     let from : c.machine_from-from.result < p.machines = rw c.machine_from-from.ensures (from_known p g c.requires.placed.1 (assigned_to g) (λ q k. assigned_known c.requires.placed.1 q) c.loop-i.invariant.sound (p.task_of a) es) in
     omega (arith, from, there, c.requires.placed.1.machines.1)
 
@@ -73,8 +73,8 @@ offset_bounds-ways-m c = let p = problem_of (words c.args.s.now) c.args.z in
     let a = get_or c.args.ready.now c.loop-i.i 0 in
     let known = here c.loop-i.invariant c.loop-i-test.true in
     let es = c.step_of-step.ensures p c.requires.placed.2 known in
-    let em = sym c.in-On.is ∙ c.assigned.ensures in
-    let there = c.requires.placed.1.assigned a c.in-On.m (with_machine (g.assigned a) c.in-On.m em) in
+    let em = sym c.in-Some.is ∙ c.assigned.ensures in
+    let there = c.requires.placed.1.assigned a c.in-Some.m (with_machine (g.assigned a) c.in-Some.m em) in
     let from : c.machine_from-from.result < p.machines = rw c.machine_from-from.ensures (from_known p g c.requires.placed.1 (assigned_to g) (λ q k. assigned_known c.requires.placed.1 q) c.loop-i.invariant.sound (p.task_of a) es) in
     omega (arith, from, there, c.requires.placed.1.machines.1)
 
@@ -84,8 +84,8 @@ bounds-ways-from c = let p = problem_of (words c.args.s.now) c.args.z in
     let a = get_or c.args.ready.now c.loop-i.i 0 in
     let known = here c.loop-i.invariant c.loop-i-test.true in
     let es = c.step_of-step.ensures p c.requires.placed.2 known in
-    let em = sym c.in-On.is ∙ c.assigned.ensures in
-    let there = c.requires.placed.1.assigned a c.in-On.m (with_machine (g.assigned a) c.in-On.m em) in
+    let em = sym c.in-Some.is ∙ c.assigned.ensures in
+    let there = c.requires.placed.1.assigned a c.in-Some.m (with_machine (g.assigned a) c.in-Some.m em) in
     let from : c.machine_from-from.result < p.machines = rw c.machine_from-from.ensures (from_known p g c.requires.placed.1 (assigned_to g) (λ q k. assigned_known c.requires.placed.1 q) c.loop-i.invariant.sound (p.task_of a) es) in
     omega (arith, from, there, c.requires.placed.1.machines.1)
 
@@ -95,8 +95,8 @@ bounds-ways-m c = let p = problem_of (words c.args.s.now) c.args.z in
     let a = get_or c.args.ready.now c.loop-i.i 0 in
     let known = here c.loop-i.invariant c.loop-i-test.true in
     let es = c.step_of-step.ensures p c.requires.placed.2 known in
-    let em = sym c.in-On.is ∙ c.assigned.ensures in
-    let there = c.requires.placed.1.assigned a c.in-On.m (with_machine (g.assigned a) c.in-On.m em) in
+    let em = sym c.in-Some.is ∙ c.assigned.ensures in
+    let there = c.requires.placed.1.assigned a c.in-Some.m (with_machine (g.assigned a) c.in-Some.m em) in
     let from : c.machine_from-from.result < p.machines = rw c.machine_from-from.ensures (from_known p g c.requires.placed.1 (assigned_to g) (λ q k. assigned_known c.requires.placed.1 q) c.loop-i.invariant.sound (p.task_of a) es) in
     omega (arith, from, there, c.requires.placed.1.machines.1)
 
@@ -106,12 +106,12 @@ overflow_cast-way c = let p = problem_of (words c.args.s.now) c.args.z in
     let a = get_or c.args.ready.now c.loop-i.i 0 in
     let known = here c.loop-i.invariant c.loop-i-test.true in
     let es = c.step_of-step.ensures p c.requires.placed.2 known in
-    let em = sym c.in-On.is ∙ c.assigned.ensures in
-    let there = c.requires.placed.1.assigned a c.in-On.m (with_machine (g.assigned a) c.in-On.m em) in
+    let em = sym c.in-Some.is ∙ c.assigned.ensures in
+    let there = c.requires.placed.1.assigned a c.in-Some.m (with_machine (g.assigned a) c.in-Some.m em) in
     let from : c.machine_from-from.result < p.machines = rw c.machine_from-from.ensures (from_known p g c.requires.placed.1 (assigned_to g) (λ q k. assigned_known c.requires.placed.1 q) c.loop-i.invariant.sound (p.task_of a) es) in
-    let ew = way_is p g c.requires.placed.1 c.requires.placed.3 c.machine_from-from.result c.in-On.m from there in
-    let back = way_is p g c.requires.placed.1 c.requires.placed.3 c.in-On.m c.machine_from-from.result there from in
-    omega (arith, ew, c.requires.placed.1.transport c.machine_from-from.result c.in-On.m from there, back, c.requires.placed.1.transport c.in-On.m c.machine_from-from.result there from)
+    let ew = way_is p g c.requires.placed.1 c.requires.placed.3 c.machine_from-from.result c.in-Some.m from there in
+    let back = way_is p g c.requires.placed.1 c.requires.placed.3 c.in-Some.m c.machine_from-from.result there from in
+    omega (arith, ew, c.requires.placed.1.transport c.machine_from-from.result c.in-Some.m from there, back, c.requires.placed.1.transport c.in-Some.m c.machine_from-from.result there from)
 
 pub place_one-requires : goal.place_one-requires
 place_one-requires c = let p = problem_of (words c.args.s.now) c.args.z in
@@ -119,10 +119,10 @@ place_one-requires c = let p = problem_of (words c.args.s.now) c.args.z in
     let a = get_or c.args.ready.now c.loop-i.i 0 in
     let known = here c.loop-i.invariant c.loop-i-test.true in
     let es = c.step_of-step.ensures p c.requires.placed.2 known in
-    let em = sym c.in-On.is ∙ c.assigned.ensures in
-    let there = c.requires.placed.1.assigned a c.in-On.m (with_machine (g.assigned a) c.in-On.m em) in
+    let em = sym c.in-Some.is ∙ c.assigned.ensures in
+    let there = c.requires.placed.1.assigned a c.in-Some.m (with_machine (g.assigned a) c.in-Some.m em) in
     let from : c.machine_from-from.result < p.machines = rw c.machine_from-from.ensures (from_known p g c.requires.placed.1 (assigned_to g) (λ q k. assigned_known c.requires.placed.1 q) c.loop-i.invariant.sound (p.task_of a) es) in
-    let ew = way_is p g c.requires.placed.1 c.requires.placed.3 c.machine_from-from.result c.in-On.m from there in
+    let ew = way_is p g c.requires.placed.1 c.requires.placed.3 c.machine_from-from.result c.in-Some.m from there in
     let coming = coming_next p g c.loop-i.invariant.sound known there (unsettled c.loop-i.invariant c.loop-i-test.true) es c.machine_from-from.ensures ew in
     record { placed = (c.requires.placed.0, c.requires.placed.1, c.requires.placed.2); coming = (coming, has_room c.loop-i.invariant c.loop-i-test.true) }
 
@@ -146,12 +146,12 @@ loop-i-preserved c = let p = problem_of (words c.args.s.now) c.args.z in
     let a = get_or c.args.ready.now c.loop-i.i 0 in
     let known = here c.loop-i.invariant c.loop-i-test.true in
     let es = c.step_of-step.ensures p c.requires.placed.2 known in
-    let em = sym c.in-On.is ∙ c.assigned.ensures in
-    let there = c.requires.placed.1.assigned a c.in-On.m (with_machine (g.assigned a) c.in-On.m em) in
+    let em = sym c.in-Some.is ∙ c.assigned.ensures in
+    let there = c.requires.placed.1.assigned a c.in-Some.m (with_machine (g.assigned a) c.in-Some.m em) in
     let from : c.machine_from-from.result < p.machines = rw c.machine_from-from.ensures (from_known p g c.requires.placed.1 (assigned_to g) (λ q k. assigned_known c.requires.placed.1 q) c.loop-i.invariant.sound (p.task_of a) es) in
-    let ew = way_is p g c.requires.placed.1 c.requires.placed.3 c.machine_from-from.result c.in-On.m from there in
+    let ew = way_is p g c.requires.placed.1 c.requires.placed.3 c.machine_from-from.result c.in-Some.m from there in
     let coming = coming_next p g c.loop-i.invariant.sound known there (unsettled c.loop-i.invariant c.loop-i-test.true) es c.machine_from-from.ensures ew in
-    placed_next c.loop-i.invariant c.loop-i-test.true c.in-On.m em c.place_one.ensures.board (placed_sound p g c.requires.placed.1 coming) c.place_one.ensures.order
+    placed_next c.loop-i.invariant c.loop-i-test.true c.in-Some.m em c.place_one.ensures.board (placed_sound p g c.requires.placed.1 coming) c.place_one.ensures.order
 
 pub shape_of-order : goal.shape_of-order
 shape_of-order c = let p = problem_of (words c.args.s.now) c.args.z in

@@ -32,20 +32,20 @@ pub bounds-order-taken : goal.bounds-order-taken
 bounds-order-taken c = omega (arith, c.loop-taken.invariant.0.sized, c.loop-taken-test.true, c.requires.1)
 
 pub offset_bounds-pending-a : goal.offset_bounds-pending-a
-offset_bounds-pending-a c = let known = a_known c.loop-taken.invariant.0 c.requires.0.problem (c.loop-taken.invariant.1 c.requires.0.problem c.requires.0.naming c.requires.0.known c.requires.0.stepwise).0 c.loop-taken-test.true c.skip_taken-front.ensures (c.first_ready.ensures c.requires.0.problem c.requires.0.naming c.requires.0.known (told c.requires.0.problem c.args.activities.now c.loop-taken.pending c.requires.0.stepwise (c.loop-taken.invariant.1 c.requires.0.problem c.requires.0.naming c.requires.0.known c.requires.0.stepwise).1)) c.requires.0.known c.requires.0.naming.few c.in-To.is in
+offset_bounds-pending-a c = let known = a_known c.loop-taken.invariant.0 c.requires.0.problem (c.loop-taken.invariant.1 c.requires.0.problem c.requires.0.naming c.requires.0.known c.requires.0.stepwise).0 c.loop-taken-test.true c.skip_taken-front.ensures (c.first_ready.ensures c.requires.0.problem c.requires.0.naming c.requires.0.known (told c.requires.0.problem c.args.activities.now c.loop-taken.pending c.requires.0.stepwise (c.loop-taken.invariant.1 c.requires.0.problem c.requires.0.naming c.requires.0.known c.requires.0.stepwise).1)) c.requires.0.known c.requires.0.naming.few c.in-Some.is in
     omega (arith, known)
 
 pub bounds-pending-a : goal.bounds-pending-a
-bounds-pending-a c = let known = a_known c.loop-taken.invariant.0 c.requires.0.problem (c.loop-taken.invariant.1 c.requires.0.problem c.requires.0.naming c.requires.0.known c.requires.0.stepwise).0 c.loop-taken-test.true c.skip_taken-front.ensures (c.first_ready.ensures c.requires.0.problem c.requires.0.naming c.requires.0.known (told c.requires.0.problem c.args.activities.now c.loop-taken.pending c.requires.0.stepwise (c.loop-taken.invariant.1 c.requires.0.problem c.requires.0.naming c.requires.0.known c.requires.0.stepwise).1)) c.requires.0.known c.requires.0.naming.few c.in-To.is in
+bounds-pending-a c = let known = a_known c.loop-taken.invariant.0 c.requires.0.problem (c.loop-taken.invariant.1 c.requires.0.problem c.requires.0.naming c.requires.0.known c.requires.0.stepwise).0 c.loop-taken-test.true c.skip_taken-front.ensures (c.first_ready.ensures c.requires.0.problem c.requires.0.naming c.requires.0.known (told c.requires.0.problem c.args.activities.now c.loop-taken.pending c.requires.0.stepwise (c.loop-taken.invariant.1 c.requires.0.problem c.requires.0.naming c.requires.0.known c.requires.0.stepwise).1)) c.requires.0.known c.requires.0.naming.few c.in-Some.is in
     omega (arith, known)
 
 pub loop-taken-preserved : goal.loop-taken-preserved
-loop-taken-preserved c = let known = a_known c.loop-taken.invariant.0 c.requires.0.problem (c.loop-taken.invariant.1 c.requires.0.problem c.requires.0.naming c.requires.0.known c.requires.0.stepwise).0 c.loop-taken-test.true c.skip_taken-front.ensures (c.first_ready.ensures c.requires.0.problem c.requires.0.naming c.requires.0.known (told c.requires.0.problem c.args.activities.now c.loop-taken.pending c.requires.0.stepwise (c.loop-taken.invariant.1 c.requires.0.problem c.requires.0.naming c.requires.0.known c.requires.0.stepwise).1)) c.requires.0.known c.requires.0.naming.few c.in-To.is in (
-  take_again c.loop-taken.invariant.0 c.in-To.a c.loop-taken-test.true c.requires.1 c.skip_taken-front.ensures known,
+loop-taken-preserved c = let known = a_known c.loop-taken.invariant.0 c.requires.0.problem (c.loop-taken.invariant.1 c.requires.0.problem c.requires.0.naming c.requires.0.known c.requires.0.stepwise).0 c.loop-taken-test.true c.skip_taken-front.ensures (c.first_ready.ensures c.requires.0.problem c.requires.0.naming c.requires.0.known (told c.requires.0.problem c.args.activities.now c.loop-taken.pending c.requires.0.stepwise (c.loop-taken.invariant.1 c.requires.0.problem c.requires.0.naming c.requires.0.known c.requires.0.stepwise).1)) c.requires.0.known c.requires.0.naming.few c.in-Some.is in (
+  take_again c.loop-taken.invariant.0 c.in-Some.a c.loop-taken-test.true c.requires.1 c.skip_taken-front.ensures known,
   λ p n b s.
       let first = c.first_ready.ensures p n b (told p c.args.activities.now c.loop-taken.pending s (c.loop-taken.invariant.1 p n b s).1) in (
-        come_again c.loop-taken.invariant.0 p (c.loop-taken.invariant.1 p n b s).0 c.loop-taken-test.true c.skip_taken-front.ensures first c.in-To.is (omega (arith, c.loop-taken.invariant.0.sized, c.loop-taken-test.true, c.requires.1)),
-        rising_again p c.args.activities.now c.loop-taken.pending c.in-To.a c.loop-taken.invariant.0.flags known (a_comes c.loop-taken.invariant.0 p (c.loop-taken.invariant.1 p n b s).0 c.loop-taken-test.true c.skip_taken-front.ensures first c.in-To.is) (c.loop-taken.invariant.1 p n b s).1,
+        come_again c.loop-taken.invariant.0 p (c.loop-taken.invariant.1 p n b s).0 c.loop-taken-test.true c.skip_taken-front.ensures first c.in-Some.is (omega (arith, c.loop-taken.invariant.0.sized, c.loop-taken-test.true, c.requires.1)),
+        rising_again p c.args.activities.now c.loop-taken.pending c.in-Some.a c.loop-taken.invariant.0.flags known (a_comes c.loop-taken.invariant.0 p (c.loop-taken.invariant.1 p n b s).0 c.loop-taken-test.true c.skip_taken-front.ensures first c.in-Some.is) (c.loop-taken.invariant.1 p n b s).1,
       ),
 )
 

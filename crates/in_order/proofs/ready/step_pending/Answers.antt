@@ -11,15 +11,15 @@ pub returns-in_default : goal.returns-in_default
 returns-in_default c p t h = no_step p c.args.pending.now c.args.a (sym (c.before_of.ensures p t h) ∙ c.in_default.is)
 
 pub offset_bounds-pending-b : goal.offset_bounds-pending-b
-offset_bounds-pending-b c = let less = before_less c.requires.problem c.args.a c.in-To.b (sym (c.before_of.ensures c.requires.problem c.requires.naming.tabled c.requires.here) ∙ c.in-To.is) in
+offset_bounds-pending-b c = let less = before_less c.requires.problem c.args.a c.in-Some.b (sym (c.before_of.ensures c.requires.problem c.requires.naming.tabled c.requires.here) ∙ c.in-Some.is) in
     omega (arith, less, c.requires.here, c.requires.roomy)
 
 pub bounds-pending-b : goal.bounds-pending-b
-bounds-pending-b c = let less = before_less c.requires.problem c.args.a c.in-To.b (sym (c.before_of.ensures c.requires.problem c.requires.naming.tabled c.requires.here) ∙ c.in-To.is) in
+bounds-pending-b c = let less = before_less c.requires.problem c.args.a c.in-Some.b (sym (c.before_of.ensures c.requires.problem c.requires.naming.tabled c.requires.here) ∙ c.in-Some.is) in
     omega (arith, less, c.requires.here, c.requires.roomy)
 
 pub returns-then-pending-b-eq1 : goal.returns-then-pending-b-eq1
-returns-then-pending-b-eq1 c p t h = step_waits p c.args.pending.now c.args.a c.in-To.b (sym (c.before_of.ensures p t h) ∙ c.in-To.is) c.if-pending-b-eq1.true
+returns-then-pending-b-eq1 c p t h = step_waits p c.args.pending.now c.args.a c.in-Some.b (sym (c.before_of.ensures p t h) ∙ c.in-Some.is) c.if-pending-b-eq1.true
 
 pub returns : goal.returns
-returns c p t h = step_taken p c.args.pending.now c.args.a c.in-To.b (sym (c.before_of.ensures p t h) ∙ c.in-To.is) c.if-pending-b-eq1.false
+returns c p t h = step_taken p c.args.pending.now c.args.a c.in-Some.b (sym (c.before_of.ensures p t h) ∙ c.in-Some.is) c.if-pending-b-eq1.false

@@ -11,10 +11,10 @@ pub returns-in_default : goal.returns-in_default
 returns-in_default c = no_link (λ x. get_or c.args.ends.now x 0 - get_or c.args.starts.now x 0 + get_or c.args.tail.now x 0) c.args.first c.in_default.is
 
 pub span_and_tail-after-requires : goal.span_and_tail-after-requires
-span_and_tail-after-requires c = (link_names (length c.args.tail.now) c.in-To.x c.in-To.is c.requires.0, c.requires.1)
+span_and_tail-after-requires c = (link_names (length c.args.tail.now) c.in-Some.x c.in-Some.is c.requires.0, c.requires.1)
 
 pub returns-then-first-after : goal.returns-then-first-after
-returns-then-first-after c = c.span_and_tail-after.ensures ∙ greater_link (λ x. get_or c.args.ends.now x 0 - get_or c.args.starts.now x 0 + get_or c.args.tail.now x 0) c.args.first c.in-To.x c.in-To.is (omega (arith, c.if-first-after.true, c.span_and_tail-after.ensures))
+returns-then-first-after c = c.span_and_tail-after.ensures ∙ greater_link (λ x. get_or c.args.ends.now x 0 - get_or c.args.starts.now x 0 + get_or c.args.tail.now x 0) c.args.first c.in-Some.x c.in-Some.is (omega (arith, c.if-first-after.true, c.span_and_tail-after.ensures))
 
 pub returns : goal.returns
-returns c = no_greater_link (λ x. get_or c.args.ends.now x 0 - get_or c.args.starts.now x 0 + get_or c.args.tail.now x 0) c.args.first c.in-To.x c.in-To.is (omega (arith, c.if-first-after.false, c.span_and_tail-after.ensures))
+returns c = no_greater_link (λ x. get_or c.args.ends.now x 0 - get_or c.args.starts.now x 0 + get_or c.args.tail.now x 0) c.args.first c.in-Some.x c.in-Some.is (omega (arith, c.if-first-after.false, c.span_and_tail-after.ensures))
