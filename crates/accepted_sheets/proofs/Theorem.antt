@@ -6,7 +6,7 @@ use mathlib.Core.Bool.{Bool, true, false}
 use mathlib.Core.List.{List}
 use lib.Ieee.{lt}
 use Rattle.graph.specs.Arcs.{Circle}
-use Rattle.reader.specs.declared.Reading.{Reading}
+use Rattle.reader.specs.Answer.{Reading}
 use Rattle.plan.specs.Problem.{Problem, Genes}
 use Rattle.plan.specs.Accepted.{Accepted}
 use Rattle.intake.specs.Circle.{Before}

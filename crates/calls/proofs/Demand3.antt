@@ -12,7 +12,7 @@ use Rattle.graph.specs.Counting.{count_of}
 use Rattle.graph.proofs.CountingLaws.{below_of, either, hit-ne}
 use Rattle.graph.proofs.Theorem.{at_most_n, all_named, order_once}
 use Rattle.graph.proofs.ShopTheorem.{graph}
-use Rattle.reader.specs.declared.Answer.TheVariants.{Accepted as Read}
+use Rattle.reader.specs.Answer.{Accepted as Read}
 use Rattle.plan.specs.Problem.{Problem, Genes}
 use Rattle.plan.specs.Accepted.{Accepted}
 use Rattle.lines.specs.Lines.{Lines, lines_in, machine_of, place_on, well_formed, WellFormed}

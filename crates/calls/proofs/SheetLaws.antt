@@ -26,9 +26,9 @@ use Rattle.fitness.specs.Ended.{Ended}
 use lib.Ieee.{Float, to_bits, binary64}
 use lib.Dec.{leb}
 use borrow.Author.Tests.{leb-true}
-use Rattle.reader.specs.declared.Reading.{Reading}
-use Rattle.reader.specs.declared.Answer.{Answer}
-use Rattle.reader.specs.declared.Answer.TheVariants.{Accepted as Read, No}
+use Rattle.reader.specs.Answer.{Reading}
+use Rattle.reader.specs.Answer.{Answer}
+use Rattle.reader.specs.Answer.{Accepted as Read, No}
 use Rattle.plan.specs.Found.{layout_of}
 use Rattle.plan.specs.declared.Layout.{Layout}
 use Rattle.tables.specs.Tabled.{Tabled}

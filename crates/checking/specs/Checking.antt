@@ -1,9 +1,9 @@
 -- Document 01, "The sheet check (ours)", for a stored plan: what the plan is refused for, numbers 1, 2, 3, 5 and 4; else the first bad row and
 -- its first broken rule; else rule 10, the lowest activity without a row; else accepted.
 use Rattle.std.specs.Prelude.{ℕ, List, ℤ}
-use Rattle.reader.specs.declared.Reading.{Reading}
-use Rattle.reader.specs.declared.Answer.{Answer}
-use Rattle.reader.specs.declared.Answer.TheVariants.{Accepted as Read, No}
+use Rattle.reader.specs.Answer.{Reading}
+use Rattle.reader.specs.Answer.{Answer}
+use Rattle.reader.specs.Answer.{Accepted as Read, No}
 use Rattle.intake.specs.Intake.{problem_in, taken_in}
 use Rattle.sheet.specs.Sheet.{check_sheet}
 use Rattle.sheet.specs.declared.Verdict.{Verdict}

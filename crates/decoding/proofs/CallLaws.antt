@@ -4,9 +4,9 @@ use mathlib.Core.Path.{◌≡◌, sym, ap, ◌∙◌}
 use mathlib.Core.Bool.{Bool, true, false, not}
 use mathlib.Core.List.{List}
 use Rattle.graph.proofs.BoolLaws.{denied, granted}
-use Rattle.reader.specs.declared.Reading.{Reading}
-use Rattle.reader.specs.declared.Answer.{Answer}
-use Rattle.reader.specs.declared.Answer.TheVariants.{Accepted, No}
+use Rattle.reader.specs.Answer.{Reading}
+use Rattle.reader.specs.Answer.{Answer}
+use Rattle.reader.specs.Answer.{Accepted, No}
 use Rattle.plan.specs.Problem.{Problem, Genes}
 use Rattle.intake.specs.Intake.{problem_in, genes_in, taken_in}
 use Rattle.board.specs.Board.{Board}

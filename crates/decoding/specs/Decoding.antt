@@ -1,9 +1,9 @@
 -- Document 01, "Two decoders" and "Numbers on the screen", for the calls that write a decoder's sheet: number 6 for a result that is too short,
 -- then what the plan is refused for; else the rows in placing order, later cells untouched, and the fitness of what is placed.
 use Rattle.std.specs.Prelude.{ℕ, List, length, get_or}
-use Rattle.reader.specs.declared.Reading.{Reading}
-use Rattle.reader.specs.declared.Answer.{Answer}
-use Rattle.reader.specs.declared.Answer.TheVariants.{Accepted, No}
+use Rattle.reader.specs.Answer.{Reading}
+use Rattle.reader.specs.Answer.{Answer}
+use Rattle.reader.specs.Answer.{Accepted, No}
 use Rattle.plan.specs.Problem.{Problem, Genes}
 use Rattle.intake.specs.Intake.{problem_in, genes_in, taken_in}
 use Rattle.intake.specs.Circle.{each}

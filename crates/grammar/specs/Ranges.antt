@@ -1,5 +1,5 @@
 -- Document 01, "The input, word by word" and number 2: the range of each word.
-use Rattle.std.specs.Prelude.{ℕ, Bool, true, cond, ◌&&◌, ◌||◌, ltb, leb, eqb}
+use Rattle.std.specs.Prelude.{ℕ, Bool, true, ◌&&◌, ◌||◌, ltb, leb, eqb}
 use Rattle.grammar.specs.declared.Known.{Known}
 use Rattle.grammar.specs.declared.Kind.{Kind}
 use Rattle.grammar.specs.declared.Kind.TheVariants.{Any, Span, Activity, Machine, MachineOrNone, Deadline, WeightHigh}
@@ -14,10 +14,6 @@ in_range Machine k before w = ltb w k.machines
 in_range MachineOrNone k before w = ltb w k.machines || eqb w 4294967295
 in_range Deadline k before w = eqb before 1 || eqb w 0
 in_range WeightHigh k before w = ltb w 1072693248 || (eqb before 0 && (eqb w 1072693248 || eqb w 2147483648))
-
--- The number of the refusal of a word, or 0.
-abbrev pub word_rule : Kind → Known → ℕ → ℕ → ℕ
-word_rule kind k before w = cond (in_range kind k before w) 0 2
 
 -- How many words before itself a word's refusal names: the weight is refused at its low word.
 abbrev pub back : Kind → ℕ

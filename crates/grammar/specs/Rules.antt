@@ -1,5 +1,5 @@
 -- Document 01, "The input, word by word" and number 3: the rules about counts and about entries.
-use Rattle.std.specs.Prelude.{ℕ, zero, suc, ◌+◌, ◌*◌, ◌-◌, ◌≡◌, Bool, true, false, cond, ◌&&◌, ◌||◌, List, ltb, leb, eqb, get_or}
+use Rattle.std.specs.Prelude.{ℕ, zero, suc, ◌+◌, ◌*◌, ◌-◌, ◌≡◌, Bool, true, false, cond, not, ◌&&◌, ◌||◌, List, ltb, leb, eqb, get_or}
 use Rattle.grammar.specs.declared.Section.{Section}
 use Rattle.grammar.specs.declared.Known.{Known}
 use Rattle.grammar.specs.declared.Rule.{Rule}
@@ -13,12 +13,12 @@ use Rattle.grammar.specs.declared.Keep.TheVariants.{Nothing, Tasks, Activities, 
 abbrev pub width_of : Section → Known → ℕ
 width_of s k = cond (eqb s.width 0) k.machines s.width
 
--- The number of the refusal of a count, or 0: the tasks' activities sum to n; Times has n · R entries; Assignment has at most n.
-abbrev pub count_rule : Check → Known → ℕ → ℕ
-count_rule None k count = 0
-count_rule Total k count = cond (eqb k.total count) 0 3
-count_rule Product k count = cond (eqb count (k.activities * k.machines)) 0 3
-count_rule Most k count = cond (leb count k.activities) 0 3
+-- A count keeps its rule: the tasks' activities sum to n; Times has n · R entries; Assignment has at most n.
+abbrev pub count_kept : Check → Known → ℕ → Bool
+count_kept None k count = true
+count_kept Total k count = eqb k.total count
+count_kept Product k count = eqb count (k.activities * k.machines)
+count_kept Most k count = leb count k.activities
 
 -- The entries before `at` are `done` in number and `width` words each.
 
@@ -41,13 +41,12 @@ precedes ws (suc n) p q = ltb (get_or ws p 0) (get_or ws q 0) || (eqb (get_or ws
 abbrev pub strict : (words : List ℕ) → (width done at : ℕ) → Bool
 strict ws w done at = eqb done 0 || precedes ws 3 (at - w) at
 
--- The number of the refusal of the entry at `at`, or 0: no pair twice, triples rise strictly.
-abbrev pub entry_rule : (words : List ℕ) → Rule → (width done at : ℕ) → ℕ
-entry_rule ws Free w done at = 0
-entry_rule ws Rising w done at = cond (rising ws w done at) 0 3
-entry_rule ws RisingOnce w done at =
-    cond (rising ws w done at) (cond (pair_before ws w done at (get_or ws at 0) (get_or ws (at + 1) 0)) 3 0) 3
-entry_rule ws Strict w done at = cond (strict ws w done at) 0 3
+-- The entry at `at` keeps its rule: no pair twice, triples rise strictly.
+abbrev pub entry_kept : (words : List ℕ) → Rule → (width done at : ℕ) → Bool
+entry_kept ws Free w done at = true
+entry_kept ws Rising w done at = rising ws w done at
+entry_kept ws RisingOnce w done at = rising ws w done at && not (pair_before ws w done at (get_or ws at 0) (get_or ws (at + 1) 0))
+entry_kept ws Strict w done at = strict ws w done at
 
 -- Each of the entries before `at` kept the rising rule.
 unfoldable pub Risen : (words : List ℕ) → (width done at : ℕ) → Type 0

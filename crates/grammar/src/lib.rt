@@ -5,8 +5,8 @@
 ghost use Rattle.std.specs.Prelude.{◌≡◌, cond, ◌+◌, ◌*◌, ◌-◌, ◌<◌, ◌≤◌, ◌^◌, length, get_or};
 ghost use Rattle.words.specs.Words.{words};
 ghost use Rattle.grammar.specs.Sections.{sections, no_section, kind_at};
-ghost use Rattle.grammar.specs.Ranges.{in_range, word_rule, back};
-ghost use Rattle.grammar.specs.Rules.{width_of, count_rule, rising, pair_before, precedes, strict, Risen, entry_rule, total_from, learnt, after};
+ghost use Rattle.grammar.specs.Ranges.{in_range, back};
+ghost use Rattle.grammar.specs.Rules.{width_of, count_kept, rising, pair_before, precedes, strict, Risen, entry_kept, total_from, learnt, after};
 ghost use Rattle.grammar.specs.declared.Rule.{Rule};
 ghost use Rattle.grammar.specs.declared.Rule.TheVariants.{RisingOnce};
 
@@ -258,7 +258,7 @@ pub fn width_of(row: Section, k: Known) -> usize
 }
 
 // Whether a word is in its range.
-fn in_range(kind: Kind, k: Known, before: u32, w: u32) -> bool
+pub fn is_in_range(kind: Kind, k: Known, before: u32, w: u32) -> bool
     ensures { result ≡ in_range kind k before w }
 {
     match kind {
@@ -272,13 +272,6 @@ fn in_range(kind: Kind, k: Known, before: u32, w: u32) -> bool
             w < 1072693248 || (before == 0 && (w == 1072693248 || w == 2147483648))
         }
     }
-}
-
-// The number of the refusal of a word, or 0.
-pub fn word_rule(kind: Kind, k: Known, before: u32, w: u32) -> u32
-    ensures { result ≡ word_rule kind k before w }
-{
-    if in_range(kind, k, before, w) { 0 } else { 2 }
 }
 
 // How many words before itself a word's refusal names.
@@ -302,22 +295,15 @@ fn product(a: u32, b: u32) -> u64
     wide(a) * wide(b)
 }
 
-// 0 where a rule is kept, 3 where it is broken.
-fn three_unless(kept: bool) -> u32
-    ensures { result ≡ cond kept 0 3 }
-{
-    if kept { 0 } else { 3 }
-}
-
-// The number of the refusal of a count, or 0.
-pub fn count_rule(check: Check, k: Known, n: u32) -> u32
-    ensures { result ≡ count_rule check k n }
+// Whether a count keeps its rule.
+pub fn is_count_kept(check: Check, k: Known, n: u32) -> bool
+    ensures { result ≡ count_kept check k n }
 {
     match check {
-        Check::None => 0,
-        Check::Total => three_unless(k.total == wide(n)),
-        Check::Product => three_unless(wide(n) == product(k.activities, k.machines)),
-        Check::Most => three_unless(n <= k.activities),
+        Check::None => true,
+        Check::Total => k.total == wide(n),
+        Check::Product => wide(n) == product(k.activities, k.machines),
+        Check::Most => n <= k.activities,
     }
 }
 
@@ -381,26 +367,19 @@ fn is_strict(s: &[u8], w: usize, done: usize, at: usize) -> bool
     done == 0 || comes_before(s, 3, minus(at, w), at)
 }
 
-// The number of the refusal of the entry at `at`, after `done` others of w words each, or 0.
-pub fn entry_rule(s: &[u8], rule: Rule, w: usize, done: usize, at: usize) -> u32
+// Whether the entry at `at`, after `done` others of w words each, keeps its rule.
+pub fn is_entry_kept(s: &[u8], rule: Rule, w: usize, done: usize, at: usize) -> bool
     requires { (at < 2 ^ 62) × ((rule ≡ RisingOnce) → Risen (words s.now) w done at) }
-    ensures { result ≡ entry_rule (words s.now) rule w done at }
+    ensures { result ≡ entry_kept (words s.now) rule w done at }
 {
     match rule {
-        Rule::Free => 0,
-        Rule::Rising => three_unless(is_rising(s, w, done, at)),
+        Rule::Free => true,
+        Rule::Rising => is_rising(s, w, done, at),
         Rule::RisingOnce => {
-            if is_rising(s, w, done, at) {
-                if pair_before(s, w, done, at, words::word(s, at), words::word(s, at + 1)) {
-                    3
-                } else {
-                    0
-                }
-            } else {
-                3
-            }
+            is_rising(s, w, done, at)
+                && !pair_before(s, w, done, at, words::word(s, at), words::word(s, at + 1))
         }
-        Rule::Strict => three_unless(is_strict(s, w, done, at)),
+        Rule::Strict => is_strict(s, w, done, at),
     }
 }
 

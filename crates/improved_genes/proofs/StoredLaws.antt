@@ -7,7 +7,7 @@ use native.Mathlib.Omega.{arith}
 use lib.Ieee.{Float}
 use lib.ListN.{length, get_or}
 use Rattle.words.proofs.WordLaws.{below_all}
-use Rattle.reader.specs.declared.Answer.TheVariants.{Accepted as Taken}
+use Rattle.reader.specs.Answer.{Accepted as Taken}
 use Rattle.intake.specs.Intake.{problem_in, genes_in, taken_in}
 use Rattle.intake.proofs.Soundness.{taken_in_means}
 use Rattle.search.specs.Search.{improved, improve}

@@ -7,9 +7,9 @@ use borrow.Author.Tests.{leb-true}
 use lib.Dec.{leb}
 use lib.Ieee.{Float}
 use lib.ListN.{length}
-use Rattle.reader.specs.declared.Reading.{Reading}
-use Rattle.reader.specs.declared.Answer.{Answer as ReadersAnswer}
-use Rattle.reader.specs.declared.Answer.TheVariants.{Accepted as Read, No}
+use Rattle.reader.specs.Answer.{Reading}
+use Rattle.reader.specs.Answer.{Answer as ReadersAnswer}
+use Rattle.reader.specs.Answer.{Accepted as Read, No}
 use Rattle.plan.specs.Problem.{Problem, Genes}
 use Rattle.intake.specs.Intake.{problem_in, genes_in, taken_in}
 use Rattle.lines.specs.Lines.{Lines}

@@ -3,9 +3,9 @@
 use Rattle.std.specs.Prelude.{ℕ, ◌≡◌, Bool, true, false, ◌&&◌, List, [], ◌∷◌, leb, length}
 use Rattle.std.specs.Float.Ieee.{to_bits}
 use Rattle.std.specs.Float.{binary64}
-use Rattle.reader.specs.declared.Reading.{Reading}
-use Rattle.reader.specs.declared.Answer.{Answer as ReadersAnswer}
-use Rattle.reader.specs.declared.Answer.TheVariants.{Accepted, No}
+use Rattle.reader.specs.Answer.{Reading}
+use Rattle.reader.specs.Answer.{Answer as ReadersAnswer}
+use Rattle.reader.specs.Answer.{Accepted, No}
 use Rattle.intake.specs.Intake.{problem_in, genes_in, taken_in}
 use Rattle.rows.specs.Rows.{over}
 use Rattle.search.specs.Search.{Improved, no_steps, incomplete, contradictory, nothing_better, improved, improve}

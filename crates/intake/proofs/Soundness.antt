@@ -5,9 +5,9 @@ use mathlib.Core.List.{List}
 use Prim.Native.Nat.{ℕ}
 use native.Mathlib.Omega.{arith}
 use Rattle.reader.specs.Reading.{read_all, no, yes, nothing_known}
-use Rattle.reader.specs.declared.Reading.{Reading}
-use Rattle.reader.specs.declared.Answer.{Answer}
-use Rattle.reader.specs.declared.Answer.TheVariants.{Accepted as Taken, No}
+use Rattle.reader.specs.Answer.{Reading}
+use Rattle.reader.specs.Answer.{Answer}
+use Rattle.reader.specs.Answer.{Accepted as Taken, No}
 use Rattle.reader.proofs.AcceptedLaws.{answered}
 use Rattle.graph.specs.Arcs.{Circle}
 use Rattle.plan.proofs.Accepting.{accepted_placed, accepted_layout, accepted_means}

@@ -6,9 +6,9 @@ use Prim.Native.Nat.{ℕ}
 use native.Mathlib.Omega.{arith}
 use Rattle.words.specs.Words.{words}
 use Rattle.reader.specs.Reading.{read_all, no, yes}
-use Rattle.reader.specs.declared.Reading.{Reading}
-use Rattle.reader.specs.declared.Answer.{Answer}
-use Rattle.reader.specs.declared.Answer.TheVariants.{Accepted as Taken, No}
+use Rattle.reader.specs.Answer.{Reading}
+use Rattle.reader.specs.Answer.{Answer}
+use Rattle.reader.specs.Answer.{Accepted as Taken, No}
 use Rattle.reader.proofs.AcceptedLaws.{answered}
 use Rattle.plan.specs.Input.{problem_of, genes_of}
 use Rattle.plan.specs.Found.{Placed, layout_of}

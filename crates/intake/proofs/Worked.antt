@@ -6,7 +6,7 @@ use Rattle.words.specs.Words.{bytes_of}
 use Rattle.words.specs.Words as stored
 use Rattle.reader.specs.Reading.{yes}
 use Rattle.reader.specs.Reading as reading
-use Rattle.reader.specs.declared.Reading.{Reading}
+use Rattle.reader.specs.Answer.{Reading}
 use Rattle.grammar.specs.Rules as rules
 use Rattle.graph.specs.Order as order
 use Rattle.plan.specs.Input as input

@@ -2,7 +2,7 @@
 -- and predecessors close no circle. Later proofs lean on this and on nothing else of the reader.
 use Rattle.std.specs.Prelude.{List, ℕ}
 use Rattle.words.specs.Words.{words}
-use Rattle.reader.specs.declared.Reading.{Reading}
+use Rattle.reader.specs.Answer.{Reading}
 use Rattle.graph.specs.Arcs.{Circle}
 use Rattle.plan.specs.Found.{Placed, Weighed, layout_of}
 use Rattle.plan.specs.Laid.{Laid}

@@ -1,18 +1,17 @@
 // A plan taken in whole: read, its tables filled, and refused 4 where task order and predecessors close a circle.
 #![tactic(auto)]
 
-ghost use Rattle.std.specs.Prelude.{◌≡◌, length, replicate};
+ghost use Rattle.std.specs.Prelude.{◌≡◌, IfOk, length, replicate};
 ghost use Rattle.words.specs.Words.{words};
 ghost use Rattle.plan.specs.Input.{problem_of, genes_of};
 ghost use Rattle.plan.specs.Accepted.{Accepted};
 ghost use Rattle.tables.specs.Regions.{cells};
 ghost use Rattle.tables.specs.Tabled.{Tabled};
-ghost use Rattle.intake.specs.Intake.{problem_in, taken_in};
-ghost use Rattle.reader.specs.declared.Answer.TheVariants.{Accepted as Answer-as-Accepted};
+ghost use Rattle.intake.specs.Intake.{laid_out, taken_in};
 ghost use Rattle.intake.specs.Circle.{closes_circle, Room};
 
 use plan::Layout;
-use reader::{Answer, Reading};
+use reader::{Reason, Refusal};
 
 // Whether the order over the tables, with no lines, leaves an activity out. The lent parts are as long as there are activities; those of
 // the counts and the order are work space.
@@ -72,23 +71,22 @@ fn closes_circle(s: &[u8], z: Layout, table: &[usize]) -> bool
     )
 }
 
-// Takes a plan in: numbers 1, 2, 3 as the words come, then 5, then 4; the tables of what is accepted are filled. The table is work space.
-pub fn take_in(s: &[u8], table: &mut [usize]) -> Reading
+// Takes a plan in, and answers how it lies: refusals 1, 2, 3 as the words come, then 5, then 4; the tables of what is accepted are filled. The
+// table is work space.
+pub fn take_in(s: &[u8], table: &mut [usize]) -> Result<Layout, Refusal>
     requires { length table.old ≡ cells }
-    ensures answer { result ≡ taken_in s.now }
-    ensures tabled { (result.answer ≡ Answer-as-Accepted) → Tabled (problem_in s.now result) table.new }
+    ensures answer { result ≡ laid_out (taken_in s.now) }
+    ensures tabled { IfOk result (λ z. Tabled (problem_of (words s.now) z) table.new) }
 {
-    let r = reader::read(s);
-    let answer = r.answer;
-    let Answer::Accepted = answer else {
-        return r;
-    };
-    let z = plan::layout_of(r);
+    let z = plan::layout_of(reader::read(s)?);
     tables::fill(s, z, table);
     if closes_circle(s, z, table) {
-        return reader::refuse(4, 0);
+        return Err(Refusal {
+            reason: Reason::Circle,
+            place: 0,
+        });
     }
-    r
+    Ok(z)
 }
 
 // Room for the tables, all zeros.

@@ -6,9 +6,9 @@ use mathlib.Core.List.{List}
 use lib.Dec.{leb}
 use lib.ListN.{length}
 use borrow.Author.Tests.{leb-true}
-use Rattle.reader.specs.declared.Reading.{Reading}
-use Rattle.reader.specs.declared.Answer.{Answer}
-use Rattle.reader.specs.declared.Answer.TheVariants.{Accepted, No}
+use Rattle.reader.specs.Answer.{Reading}
+use Rattle.reader.specs.Answer.{Answer}
+use Rattle.reader.specs.Answer.{Accepted, No}
 use Rattle.plan.specs.Problem.{Problem}
 use Rattle.intake.specs.Intake.{problem_in, taken_in}
 use Rattle.lines.specs.Lines.{Lines}

@@ -3,9 +3,9 @@
 use Rattle.std.specs.Prelude.{ℕ, ◌≤◌, ◌≡◌, Bool, true, false, ◌&&◌, List, ◌++◌, leb, Float, length, take}
 use Rattle.std.specs.Float.Ieee.{to_bits}
 use Rattle.std.specs.Float.{binary64}
-use Rattle.reader.specs.declared.Reading.{Reading}
-use Rattle.reader.specs.declared.Answer.{Answer as ReadersAnswer}
-use Rattle.reader.specs.declared.Answer.TheVariants.{Accepted, No}
+use Rattle.reader.specs.Answer.{Reading}
+use Rattle.reader.specs.Answer.{Answer as ReadersAnswer}
+use Rattle.reader.specs.Answer.{Accepted, No}
 use Rattle.plan.specs.Problem.{Problem}
 use Rattle.intake.specs.Intake.{problem_in, taken_in}
 use Rattle.lines.specs.Lines.{Lines, lines_in, well_formed}

@@ -20,7 +20,7 @@ use Rattle.grammar.specs.Rules.{total_from}
 use Rattle.grammar.specs.declared.Known.{Known}
 use Rattle.grammar.proofs.EntryLaws.{total_none}
 use Rattle.reader.specs.Reading.{read_all, nothing_known, nowhere, yes}
-use Rattle.reader.specs.declared.Reading.{Reading}
+use Rattle.reader.specs.Answer.{Reading}
 use Rattle.reader.proofs.AcceptedLaws.{both, SectionsRead, accepted_read}
 use Rattle.plan.specs.Input.{cell, count, task_of, assigned_of, problem_of, genes_of}
 use Rattle.plan.specs.Found.{Placed, layout_of}

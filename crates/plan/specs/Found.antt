@@ -2,34 +2,38 @@
 use Rattle.std.specs.Prelude.{ℕ, zero, suc, ◌≤◌, ◌<◌, ◌^◌, ◌≡◌, true, List, [], get_or, set, replicate, ℤ, Some, None, Option}
 use Rattle.grammar.specs.Ranges.{in_range}
 use Rattle.grammar.specs.declared.Kind.TheVariants.{WeightHigh}
+use Rattle.grammar.specs.declared.Known.{Known}
 use Rattle.reader.specs.Reading.{nothing_known}
-use Rattle.reader.specs.declared.Reading.{Reading}
+use Rattle.reader.specs.Answer.{Reading}
 use Rattle.plan.specs.Problem.{Problem}
 use Rattle.plan.specs.Input.{cell}
 use Rattle.plan.specs.declared.Layout.{Layout}
 use Rattle.plan.specs.declared.Times.{Times}
 
 -- The counts and section starts of a reading, by name.
-abbrev pub layout_of : Reading → Layout
-layout_of r =
+abbrev pub layout_in : Known → (starts : List ℕ) → Layout
+layout_in known starts =
     record {
-      tasks = r.known.tasks;
-      activities = r.known.activities;
-      machines = r.known.machines;
+      tasks = known.tasks;
+      activities = known.activities;
+      machines = known.machines;
       at =
           record {
-            tasks = get_or r.starts 0 0;
-            activities = get_or r.starts 1 0;
-            machines = get_or r.starts 2 0;
-            times = get_or r.starts 3 0;
-            candidates = get_or r.starts 4 0;
-            setups = get_or r.starts 5 0;
-            predecessors = get_or r.starts 6 0;
-            search = get_or r.starts 7 0;
-            order = get_or r.starts 8 0;
-            assignment = get_or r.starts 9 0;
+            tasks = get_or starts 0 0;
+            activities = get_or starts 1 0;
+            machines = get_or starts 2 0;
+            times = get_or starts 3 0;
+            candidates = get_or starts 4 0;
+            setups = get_or starts 5 0;
+            predecessors = get_or starts 6 0;
+            search = get_or starts 7 0;
+            order = get_or starts 8 0;
+            assignment = get_or starts 9 0;
           };
     }
+
+abbrev pub layout_of : Reading → Layout
+layout_of r = layout_in r.known r.starts
 
 -- A layout whose numbers are small enough to reckon with.
 pub record Placed (z : Layout) : Type 0 where

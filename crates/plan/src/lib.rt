@@ -4,9 +4,9 @@
 ghost use Rattle.std.specs.Prelude.{◌≡◌, ℕ, ◌+◌, ◌*◌, ◌-◌, ◌<◌, ◌≤◌, ◌^◌, length, get_or, Option};
 ghost use Rattle.words.specs.Words.{words};
 ghost use Rattle.plan.specs.Input.{cell, release_in, problem_of, genes_of};
-ghost use Rattle.plan.specs.Found.{Placed, Weighed, layout_of, times_of, row_to, transports_of};
+ghost use Rattle.plan.specs.Found.{Placed, Weighed, layout_in, times_of, row_to, transports_of};
 
-use reader::Reading;
+use reader::Sections;
 
 // Where each section's count stands, as a word number.
 #[derive(Clone, Copy)]
@@ -41,8 +41,8 @@ pub struct Times {
 }
 
 // The layout of what was read, its numbers one by one.
-pub fn layout_of(r: Reading) -> Layout
-    ensures { result ≡ layout_of r }
+pub fn layout_of(r: Sections) -> Layout
+    ensures { result ≡ layout_in r.known r.starts }
 {
     let starts = r.starts;
     let known = r.known;

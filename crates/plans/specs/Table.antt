@@ -4,7 +4,7 @@
 use Rattle.std.specs.Prelude.{ℕ, ◌≡◌, ◌⊎◌, true, false, List, [], ◌∷◌, map, ltb, Float, pos, negsuc, replicate, Some, None}
 use Rattle.std.specs.Float.{fin, binary64}
 use Rattle.std.specs.Float.Ieee.{lt, to_bits}
-use Rattle.reader.specs.declared.Answer.TheVariants.{Accepted}
+use Rattle.reader.specs.Answer.{Accepted}
 use Rattle.intake.specs.Intake.{taken_in, problem_in}
 use Rattle.bounds.specs.Bounds.{tardiness_of}
 use Rattle.lines.specs.Lines.{Lines}

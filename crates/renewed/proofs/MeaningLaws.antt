@@ -11,7 +11,7 @@ use lib.Dec.{ltb}
 use lib.ListN.{length, get_or, take}
 use Rattle.words.specs.Words.{words, Below}
 use Rattle.words.proofs.WordLaws.{length-words, below_at}
-use Rattle.reader.specs.declared.Answer.TheVariants.{Accepted as Taken}
+use Rattle.reader.specs.Answer.{Accepted as Taken}
 use Rattle.plan.specs.Input.{cell, count, some_if, words_from, problem_of, genes_of}
 use Rattle.plan.specs.Found.{layout_of}
 use Rattle.plan.specs.Laid.{Laid}

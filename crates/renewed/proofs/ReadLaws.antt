@@ -16,7 +16,7 @@ use Rattle.grammar.specs.declared.Kind.TheVariants.{Span}
 use Rattle.reader.specs.Reading.{and_then, unless, read_word, read_fields, read_entries, read_section, then_read, read_sections, no, yes}
 use Rattle.reader.specs.declared.Onward.{Onward}
 use Rattle.reader.specs.declared.Onward.TheVariants.{Next}
-use Rattle.reader.specs.declared.Reading.{Reading}
+use Rattle.reader.specs.Answer.{Reading}
 use Rattle.reader.proofs.AcceptedLaws.{Ranged, EntriesRead, SectionRead, SectionsRead}
 
 word_reads : (ws : List ℕ) (k : Known) (kind : Kind) (at : ℕ) → at < length ws → Ranged ws k kind at → read_word ws kind k at ≡ Next (at + 1)

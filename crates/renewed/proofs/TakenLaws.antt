@@ -19,9 +19,9 @@ use Rattle.grammar.specs.declared.Section.{Section}
 use Rattle.grammar.specs.declared.Known.{Known}
 use Rattle.grammar.specs.declared.Keep.TheVariants.{Tasks, Activities, Machines}
 use Rattle.reader.specs.Reading.{read_sections, read_all, nothing_known, nowhere, yes}
-use Rattle.reader.specs.declared.Reading.{Reading}
-use Rattle.reader.specs.declared.Answer.{Answer}
-use Rattle.reader.specs.declared.Answer.TheVariants.{Accepted as Taken, No}
+use Rattle.reader.specs.Answer.{Reading}
+use Rattle.reader.specs.Answer.{Answer}
+use Rattle.reader.specs.Answer.{Accepted as Taken, No}
 use Rattle.reader.proofs.AcceptedLaws.{SectionRead, SectionsRead, accepted_read, answered}
 use Rattle.plan.specs.Problem.{Problem, Genes}
 use Rattle.plan.specs.Found.{layout_of}

@@ -1,7 +1,7 @@
 -- What a plan with another Order and Assignment is to mean: the same problem, and the genes that were put. Two problems are the same where all
 -- that they say of their tasks, activities and machines is the same; what stands for numbers past these means nothing.
 use Rattle.std.specs.Prelude.{ℕ, ◌*◌, ◌≤◌, ◌<◌, ◌≡◌, cond, List, ltb, length, get_or, take, Some, None}
-use Rattle.reader.specs.declared.Answer.TheVariants.{Accepted}
+use Rattle.reader.specs.Answer.{Accepted}
 use Rattle.plan.specs.Problem.{Problem, Genes}
 use Rattle.plan.specs.Found.{layout_of}
 use Rattle.intake.specs.Intake.{problem_in, genes_in, taken_in}

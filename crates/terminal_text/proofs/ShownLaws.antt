@@ -15,9 +15,9 @@ use Rattle.words.specs.Text.{written}
 use Rattle.words.proofs.TextLaws.{take-written}
 use Rattle.words.proofs.WordLaws.{length-words}
 use Rattle.reader.specs.Reading.{read_all, no as unread}
-use Rattle.reader.specs.declared.Reading.{Reading}
-use Rattle.reader.specs.declared.Answer.{Answer as ReadersAnswer}
-use Rattle.reader.specs.declared.Answer.TheVariants.{Accepted, No}
+use Rattle.reader.specs.Answer.{Reading}
+use Rattle.reader.specs.Answer.{Answer as ReadersAnswer}
+use Rattle.reader.specs.Answer.{Accepted, No}
 use Rattle.plan.specs.Problem.{Problem, Genes}
 use Rattle.plan.specs.Found.{layout_of}
 use Rattle.plan.specs.Laid.{Laid}

@@ -2,7 +2,7 @@
 #![tactic(auto)]
 
 ghost use Rattle.std.specs.Prelude.{◌≤◌, ◌≡◌, length, take};
-ghost use Rattle.reader.specs.declared.Answer.TheVariants.{Accepted};
+ghost use Rattle.reader.specs.Answer.{Accepted};
 ghost use Rattle.plan.specs.Found.{layout_of};
 ghost use Rattle.intake.specs.Intake.{taken_in};
 ghost use Rattle.printing.specs.Printing.{sheet_text};

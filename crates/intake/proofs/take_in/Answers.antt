@@ -1,5 +1,5 @@
 use mathlib.Core.Path.{ap, ◌∙◌}
-use Rattle.reader.specs.declared.Reading.{Reading}
+use Rattle.reader.specs.Answer.{Reading}
 use Rattle.intake.proofs.TakingLaws.{taken_tabled, never_taken, stays_refused, taken_asks, taken_accepted, circle_refused, circle_passed}
 use borrow.Author.Rules.{rules}
 use Rattle.intake.proofs.take_in.Goals as goal

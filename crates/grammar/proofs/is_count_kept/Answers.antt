@@ -1,4 +1,4 @@
-use Rattle.grammar.proofs.count_rule.Goals as goal
+use Rattle.grammar.proofs.is_count_kept.Goals as goal
 
 pub returns-in-Total : goal.returns-in-Total
 returns-in-Total c = rw c.in-Total.is (cc)

@@ -5,7 +5,7 @@ use lib.ListN.{get_or}
 use Prim.Native.Nat.{◌+◌}
 use mathlib.Core.Bool.{Bool, true, false, cond}
 use mathlib.Core.Path.{◌≡◌, sym, ap, ◌∙◌}
-use Rattle.grammar.proofs.entry_rule.Goals as goal
+use Rattle.grammar.proofs.is_entry_kept.Goals as goal
 
 pub pair_before-requires : goal.pair_before-requires
 pair_before-requires c = let r : rising (words c.args.s.now) c.args.w c.args.done c.args.at ≡ true = sym c.is_rising-in-RisingOnce.ensures ∙ c.if-is_rising.true in

@@ -1,5 +1,5 @@
 use borrow.Author.Tests.{lt-ltb, le-ltb, le-leb, lt-leb, eq-eqb, ne_eqb}
-use Rattle.grammar.proofs.in_range.Goals as goal
+use Rattle.grammar.proofs.is_in_range.Goals as goal
 
 pub returns-then-low-w : goal.returns-then-low-w
 returns-then-low-w c = rw (c.in-Span.is, le-leb _ _ c.if-low-w.true)
