@@ -1,24 +1,27 @@
 -- Document 01, "How tightly each call is bound": what a call that writes a sheet comes to, the answer that says so, and the one content that it
 -- leaves in each lent buffer.
-use Rattle.std.specs.Prelude.{ℕ, ◌≡◌, List, Float}
+use Rattle.std.specs.Prelude.{ℕ, ◌≡◌, List, Float, Result, Ok, Err}
 use Rattle.std.specs.Float.Ieee.{to_bits}
 use Rattle.std.specs.Float.{binary64}
 use Rattle.rows.specs.Rows.{Columns, over}
-use Rattle.calls.specs.declared.Answer.{Answer}
-use Rattle.calls.specs.declared.Answer.TheVariants.{Refused, Rows}
+use Rattle.reader.specs.Refusals.{refusal}
+use Rattle.reader.specs.declared.refusal.Reason.{Reason}
+use Rattle.reader.specs.declared.refusal.Refusal.{Refusal}
+use Rattle.calls.specs.declared.Sheet.{Sheet}
 
--- A refusal by its number and place, or a sheet of so many rows with its fitness.
+-- A refusal with its place, or a sheet of so many rows with its fitness.
 pub data Outcome : Type 0 where
-  no : (number place : ℕ) → Outcome
+  no : (reason : Reason) → (place : ℕ) → Outcome
   sheet : (rows : ℕ) → (columns : Columns) → (fitness : Float) → Outcome
 
-abbrev pub answer_of : Outcome → Answer
-answer_of (no number place) = Refused number place
-answer_of (sheet rows columns fitness) = Rows rows (to_bits binary64 fitness)
+-- The answer: how many rows, and the bits of their fitness.
+abbrev pub answer_of : Outcome → Result Sheet Refusal
+answer_of (no reason place) = Err (refusal reason place)
+answer_of (sheet rows columns fitness) = Ok (record { rows = rows; bits = to_bits binary64 fitness })
 
 -- A refusal leaves a buffer as it was; a sheet has its column over the first cells, and the later ones stay.
 abbrev pub left : (Columns → List ℕ) → Outcome → (cells : List ℕ) → List ℕ
-left column (no number place) cells = cells
+left column (no reason place) cells = cells
 left column (sheet rows columns fitness) cells = over (column columns) cells
 
 pub record Leaves (o : Outcome) (a₀ m₀ s₀ e₀ u₀ a m s e u : List ℕ) : Type 0 where

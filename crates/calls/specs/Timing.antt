@@ -12,6 +12,7 @@ use Rattle.intake.specs.Circle.{each}
 use Rattle.timing.specs.Timing.{timing_order, contradicts, starts_of, ends_of, setups_of}
 use Rattle.fitness.specs.Fitness.{makespan_of, fitness_of}
 use Rattle.rows.specs.Rows.{Columns, columns_of}
+use Rattle.reader.specs.declared.refusal.Reason.TheVariants.{Room, Lines as Missed, Contradiction}
 use Rattle.calls.specs.Outcome.{Outcome, no, sheet}
 
 -- The sheet of lines that do not contradict.
@@ -22,19 +23,19 @@ abbrev pub fitness_on : Problem → Lines → Float
 fitness_on p lines = fitness_of p (λ a. get_or (ends_of p lines) a 0)
 
 abbrev pub eight_if : Bool → Problem → Lines → Outcome
-eight_if true p lines = no 8 0
+eight_if true p lines = no Contradiction 0
 eight_if false p lines = sheet p.n (sheet_of p lines) (fitness_on p lines)
 
 abbrev pub seven_unless : Bool → Problem → Lines → Outcome
 seven_unless true p lines = eight_if (contradicts p lines) p lines
-seven_unless false p lines = no 7 0
+seven_unless false p lines = no Missed 0
 
 abbrev pub timed_lines : Problem → Lines → Outcome
 timed_lines p lines = seven_unless (well_formed p.n p.machines lines) p lines
 
 abbrev pub timed_if : Answer → List ℕ → Reading → Lines → Outcome
 timed_if Accepted s r lines = timed_lines (problem_in s r) lines
-timed_if (No number place) s r lines = no number place
+timed_if (No reason place) s r lines = no reason place
 
 -- A plan and lines for it.
 abbrev pub timed_plan : (bytes : List ℕ) → Lines → Outcome
@@ -42,7 +43,7 @@ timed_plan s lines = timed_if (taken_in s).answer s (taken_in s) lines
 
 -- A plan and the lines that its own genes give; 7 where they miss an activity.
 abbrev pub seven_if : Bool → Problem → Genes → Outcome
-seven_if true p g = no 7 0
+seven_if true p g = no Missed 0
 seven_if false p g = eight_if (contradicts p (lines_of_genes p g)) p (lines_of_genes p g)
 
 abbrev pub timed_genes : Problem → Genes → Outcome
@@ -50,7 +51,7 @@ timed_genes p g = seven_if (misses p g) p g
 
 abbrev pub ordered_if : Answer → List ℕ → Reading → Outcome
 ordered_if Accepted s r = timed_genes (problem_in s r) (genes_in s r)
-ordered_if (No number place) s r = no number place
+ordered_if (No reason place) s r = no reason place
 
 abbrev pub ordered_plan : (bytes : List ℕ) → Outcome
 ordered_plan s = ordered_if (taken_in s).answer s (taken_in s)
@@ -58,7 +59,7 @@ ordered_plan s = ordered_if (taken_in s).answer s (taken_in s)
 -- Number 6: 2,048 cells for lines, 128 places for each result.
 abbrev pub six_unless : Bool → Outcome → Outcome
 six_unless true o = o
-six_unless false o = no 6 0
+six_unless false o = no Room 0
 
 abbrev pub roomy : (a m s e u : List ℕ) → Bool
 roomy a m s e u = leb 128 (length a) && (leb 128 (length m) && (leb 128 (length s) && (leb 128 (length e) && leb 128 (length u))))
@@ -84,7 +85,7 @@ again_if false times p lines = 0
 
 abbrev pub taken_again : Answer → (times : ℕ) → List ℕ → Reading → Lines → ℕ
 taken_again Accepted times s r lines = again_if (well_formed (problem_in s r).n (problem_in s r).machines lines) times (problem_in s r) lines
-taken_again (No number place) times s r lines = 0
+taken_again (No reason place) times s r lines = 0
 
 abbrev pub zero_unless : Bool → ℕ → ℕ
 zero_unless true x = x

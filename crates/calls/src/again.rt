@@ -95,11 +95,8 @@ pub fn time_again(s: &[u8], cells: &[usize], lens: [usize; 16], times: usize) ->
         return 0;
     }
     let mut table = intake::table_room();
-    let r = intake::take_in(s, &mut table);
-    let answer = r.answer;
-    if let reader::Answer::No(_, _) = answer {
+    let Ok(z) = intake::take_in(s, &mut table) else {
         return 0;
-    }
-    let z = plan::layout_of(r);
+    };
     repeat_known(s, z, &table, &cells[..2048], lens, times)
 }

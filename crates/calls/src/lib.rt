@@ -7,9 +7,9 @@ mod timed;
 pub use again::time_again;
 pub use timed::{rows_fit, time, time_order};
 
-// A refusal's number and place, or how many rows were written and the bits of their fitness.
+// How many rows were written, and the bits of their fitness.
 #[derive(Clone, Copy)]
-pub enum Answer {
-    Refused(u32, usize),
-    Rows(usize, u64),
+pub struct Sheet {
+    pub rows: usize,
+    pub bits: u64,
 }

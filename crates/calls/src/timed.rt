@@ -10,8 +10,9 @@ ghost use Rattle.calls.specs.Outcome.{answer_of, Leaves};
 ghost use Rattle.calls.specs.Timing.{sheet_of, eight_if, timed_lines, timed_genes, timed, timed_order, roomy};
 ghost use Rattle.calls.specs.Asked.{Taken};
 
-use crate::Answer;
+use crate::Sheet;
 use plan::Layout;
+use reader::{Reason, Refusal};
 
 // Whether each result has 128 places.
 pub fn rows_fit(a: &[usize], m: &[usize], s: &[u64], e: &[u64], u: &[u64]) -> bool
@@ -104,7 +105,7 @@ fn time_in(
     starts: &mut [u64],
     ends: &mut [u64],
     setups: &mut [u64],
-) -> Answer
+) -> Result<Sheet, Refusal>
     requires taken { Taken s.now z table.now × (length cells.now ≡ 2048) × WellFormed z.activities z.machines (lines_in cells.now lens) }
     requires rooms { Rooms z.activities before.old after.old on.old places.old order.old begun.old done.old × Roomy 128 activities.old machines.old starts.old ends.old setups.old }
     ensures answer { result ≡ answer_of (eight_if (contradicts (problem_of (words s.now) z) (lines_in cells.now lens)) (problem_of (words s.now) z) (lines_in cells.now lens)) }
@@ -114,14 +115,19 @@ fn time_in(
     if !timing::time_sequences(
         s, z, table, ways, cells, lens, before, after, on, places, order, begun, done,
     ) {
-        return Answer::Refused(8, 0);
+        return Err(Refusal {
+            reason: Reason::Contradiction,
+            place: 0,
+        });
     }
     write_sheet(
         s, z, table, cells, lens, before, on, order, begun, done, activities, machines, starts,
         ends, setups,
     );
-    let n = z.activities;
-    Answer::Rows(n, fitness::fitness_bits(s, z, done))
+    Ok(Sheet {
+        rows: z.activities,
+        bits: fitness::fitness_bits(s, z, done),
+    })
 }
 
 // The same with work space of its own.
@@ -136,7 +142,7 @@ fn time_lines(
     starts: &mut [u64],
     ends: &mut [u64],
     setups: &mut [u64],
-) -> Answer
+) -> Result<Sheet, Refusal>
     requires taken { Taken s.now z table.now × (length cells.now ≡ 2048) × WellFormed z.activities z.machines (lines_in cells.now lens) }
     requires roomy { Roomy 128 activities.old machines.old starts.old ends.old setups.old }
     ensures answer { result ≡ answer_of (eight_if (contradicts (problem_of (words s.now) z) (lines_in cells.now lens)) (problem_of (words s.now) z) (lines_in cells.now lens)) }
@@ -183,7 +189,7 @@ fn time_known(
     starts: &mut [u64],
     ends: &mut [u64],
     setups: &mut [u64],
-) -> Answer
+) -> Result<Sheet, Refusal>
     requires taken { Taken s.now z table.now × (length cells.now ≡ 2048) }
     requires roomy { Roomy 128 activities.old machines.old starts.old ends.old setups.old }
     ensures answer { result ≡ answer_of (timed_lines (problem_of (words s.now) z) (lines_in cells.now lens)) }
@@ -191,7 +197,10 @@ fn time_known(
 {
     let mut seen = [0usize; 128];
     if !lines::well_formed(z.activities, z.machines, cells, lens, &mut seen) {
-        return Answer::Refused(7, 0);
+        return Err(Refusal {
+            reason: Reason::Lines,
+            place: 0,
+        });
     }
     time_lines(
         s, z, table, cells, lens, activities, machines, starts, ends, setups,
@@ -209,20 +218,18 @@ pub fn time(
     starts: &mut [u64],
     ends: &mut [u64],
     setups: &mut [u64],
-) -> Answer
+) -> Result<Sheet, Refusal>
     ensures answer { result ≡ answer_of (timed s.now cells.now lens activities.old machines.old starts.old ends.old setups.old) }
     ensures rows { Leaves (timed s.now cells.now lens activities.old machines.old starts.old ends.old setups.old) activities.old machines.old starts.old ends.old setups.old activities.new machines.new starts.new ends.new setups.new }
 {
     if !is_roomy(cells, activities, machines, starts, ends, setups) {
-        return Answer::Refused(6, 0);
+        return Err(Refusal {
+            reason: Reason::Room,
+            place: 0,
+        });
     }
     let mut table = intake::table_room();
-    let r = intake::take_in(s, &mut table);
-    let answer = r.answer;
-    if let reader::Answer::No(number, place) = answer {
-        return Answer::Refused(number, place);
-    }
-    let z = plan::layout_of(r);
+    let z = intake::take_in(s, &mut table)?;
     time_known(
         s,
         z,
@@ -247,7 +254,7 @@ fn time_genes(
     starts: &mut [u64],
     ends: &mut [u64],
     setups: &mut [u64],
-) -> Answer
+) -> Result<Sheet, Refusal>
     requires { Taken s.now z table.now × Roomy 128 activities.old machines.old starts.old ends.old setups.old }
     ensures answer { result ≡ answer_of (timed_genes (problem_of (words s.now) z) (genes_of (words s.now) z)) }
     ensures rows { Leaves (timed_genes (problem_of (words s.now) z) (genes_of (words s.now) z)) activities.old machines.old starts.old ends.old setups.old activities.new machines.new starts.new ends.new setups.new }
@@ -255,7 +262,10 @@ fn time_genes(
     let mut cells = [0usize; 2048];
     let lot = genes::deal_lines(s, z, &mut cells);
     if !lot.whole {
-        return Answer::Refused(7, 0);
+        return Err(Refusal {
+            reason: Reason::Lines,
+            place: 0,
+        });
     }
     let lens = lot.lens;
     time_lines(
@@ -271,19 +281,17 @@ pub fn time_order(
     starts: &mut [u64],
     ends: &mut [u64],
     setups: &mut [u64],
-) -> Answer
+) -> Result<Sheet, Refusal>
     ensures answer { result ≡ answer_of (timed_order s.now activities.old machines.old starts.old ends.old setups.old) }
     ensures rows { Leaves (timed_order s.now activities.old machines.old starts.old ends.old setups.old) activities.old machines.old starts.old ends.old setups.old activities.new machines.new starts.new ends.new setups.new }
 {
     if !rows_fit(activities, machines, starts, ends, setups) {
-        return Answer::Refused(6, 0);
+        return Err(Refusal {
+            reason: Reason::Room,
+            place: 0,
+        });
     }
     let mut table = intake::table_room();
-    let r = intake::take_in(s, &mut table);
-    let answer = r.answer;
-    if let reader::Answer::No(number, place) = answer {
-        return Answer::Refused(number, place);
-    }
-    let z = plan::layout_of(r);
+    let z = intake::take_in(s, &mut table)?;
     time_genes(s, z, &table, activities, machines, starts, ends, setups)
 }

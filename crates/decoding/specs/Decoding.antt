@@ -27,7 +27,7 @@ board_sheet p g b = sheet_in p g b.order b.starts b.ends b.setups
 
 abbrev pub decoded_if : Answer → (rule : Problem → Genes → Board) → List ℕ → Reading → Outcome
 decoded_if Accepted rule s r = board_sheet (problem_in s r) (genes_in s r) (rule (problem_in s r) (genes_in s r))
-decoded_if (No number place) rule s r = no number place
+decoded_if (No reason place) rule s r = no reason place
 
 abbrev pub decoded_plan : (rule : Problem → Genes → Board) → (bytes : List ℕ) → Outcome
 decoded_plan rule s = decoded_if (taken_in s).answer rule s (taken_in s)

@@ -8,7 +8,8 @@ ghost use Rattle.calls.specs.Outcome.{answer_of, Leaves};
 ghost use Rattle.decoding.specs.Decoding.{decoded_by, in_order, active, decoded};
 ghost use Rattle.decoding.specs.Rule.{rule_of};
 
-use calls::Answer;
+use calls::Sheet;
+use reader::{Reason, Refusal};
 
 // How activities are placed: in order, actively, or as the better of these two sheets.
 #[derive(Clone, Copy)]
@@ -27,23 +28,21 @@ fn decode_by(
     starts: &mut [u64],
     ends: &mut [u64],
     setups: &mut [u64],
-) -> Answer
+) -> Result<Sheet, Refusal>
     ensures answer { result ≡ answer_of (decoded_by (rule_of which) s.now activities.old machines.old starts.old ends.old setups.old) }
     ensures rows { Leaves (decoded_by (rule_of which) s.now activities.old machines.old starts.old ends.old setups.old) activities.old machines.old starts.old ends.old setups.old activities.new machines.new starts.new ends.new setups.new }
 {
     if !calls::rows_fit(activities, machines, starts, ends, setups) {
-        return Answer::Refused(6, 0);
+        return Err(Refusal {
+            reason: Reason::Room,
+            place: 0,
+        });
     }
     let mut table = intake::table_room();
-    let r = intake::take_in(s, &mut table);
-    let answer = r.answer;
-    if let reader::Answer::No(number, place) = answer {
-        return Answer::Refused(number, place);
-    }
-    let z = plan::layout_of(r);
-    placed::write_placed(
+    let z = intake::take_in(s, &mut table)?;
+    Ok(placed::write_placed(
         which, s, z, &table, activities, machines, starts, ends, setups,
-    )
+    ))
 }
 
 // Places a plan's activities in order. The rows are written in placing order; there may be fewer than activities. A refusal writes nothing.
@@ -54,7 +53,7 @@ pub fn in_order(
     starts: &mut [u64],
     ends: &mut [u64],
     setups: &mut [u64],
-) -> Answer
+) -> Result<Sheet, Refusal>
     ensures answer { result ≡ answer_of (in_order s.now activities.old machines.old starts.old ends.old setups.old) }
     ensures rows { Leaves (in_order s.now activities.old machines.old starts.old ends.old setups.old) activities.old machines.old starts.old ends.old setups.old activities.new machines.new starts.new ends.new setups.new }
 {
@@ -77,7 +76,7 @@ pub fn active(
     starts: &mut [u64],
     ends: &mut [u64],
     setups: &mut [u64],
-) -> Answer
+) -> Result<Sheet, Refusal>
     ensures answer { result ≡ answer_of (active s.now activities.old machines.old starts.old ends.old setups.old) }
     ensures rows { Leaves (active s.now activities.old machines.old starts.old ends.old setups.old) activities.old machines.old starts.old ends.old setups.old activities.new machines.new starts.new ends.new setups.new }
 {
@@ -100,7 +99,7 @@ pub fn decode(
     starts: &mut [u64],
     ends: &mut [u64],
     setups: &mut [u64],
-) -> Answer
+) -> Result<Sheet, Refusal>
     ensures answer { result ≡ answer_of (decoded s.now activities.old machines.old starts.old ends.old setups.old) }
     ensures rows { Leaves (decoded s.now activities.old machines.old starts.old ends.old setups.old) activities.old machines.old starts.old ends.old setups.old activities.new machines.new starts.new ends.new setups.new }
 {

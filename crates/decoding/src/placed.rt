@@ -1,5 +1,5 @@
 // Activities placed by a decoder in local cells, and their rows written from there.
-ghost use Rattle.std.specs.Prelude.{◌≡◌};
+ghost use Rattle.std.specs.Prelude.{◌≡◌, Ok};
 ghost use Rattle.words.specs.Words.{words};
 ghost use Rattle.plan.specs.Input.{problem_of, genes_of};
 ghost use Rattle.genes.specs.Held.{Listed};
@@ -11,7 +11,7 @@ ghost use Rattle.decoding.specs.Decoding.{sheet_in, board_sheet};
 ghost use Rattle.decoding.specs.Rule.{rule_of, Laid};
 
 use crate::Decoder;
-use calls::Answer;
+use calls::Sheet;
 use plan::Layout;
 
 // Places the activities, and answers how many are placed.
@@ -55,10 +55,10 @@ fn write_board(
     starts: &mut [u64],
     ends: &mut [u64],
     setups: &mut [u64],
-) -> Answer
+) -> Sheet
     requires taken { Taken s.now z table.now × Laid z.activities order.now begun.now done.now prepared.now }
     requires roomy { Roomy 128 activities.old machines.old starts.old ends.old setups.old }
-    ensures answer { result ≡ answer_of (sheet_in (problem_of (words s.now) z) (genes_of (words s.now) z) order.now begun.now done.now prepared.now) }
+    ensures answer { Ok result ≡ answer_of (sheet_in (problem_of (words s.now) z) (genes_of (words s.now) z) order.now begun.now done.now prepared.now) }
     ensures rows { Leaves (sheet_in (problem_of (words s.now) z) (genes_of (words s.now) z) order.now begun.now done.now prepared.now) activities.old machines.old starts.old ends.old setups.old activities.new machines.new starts.new ends.new setups.new }
 {
     let mut on = [0usize; 128];
@@ -66,7 +66,10 @@ fn write_board(
     rows::write(
         order, &on, begun, done, prepared, activities, machines, starts, ends, setups,
     );
-    Answer::Rows(order.len(), fitness::fitness_bits(s, z, done))
+    Sheet {
+        rows: order.len(),
+        bits: fitness::fitness_bits(s, z, done),
+    }
 }
 
 // Places and writes. The first four buffers are work space.
@@ -84,10 +87,10 @@ fn write_in(
     starts: &mut [u64],
     ends: &mut [u64],
     setups: &mut [u64],
-) -> Answer
+) -> Sheet
     requires taken { Taken s.now z table.now × Rooms z.activities order.old begun.old done.old prepared.old }
     requires roomy { Roomy 128 activities.old machines.old starts.old ends.old setups.old }
-    ensures answer { result ≡ answer_of (board_sheet (problem_of (words s.now) z) (genes_of (words s.now) z) (rule_of which (problem_of (words s.now) z) (genes_of (words s.now) z))) }
+    ensures answer { Ok result ≡ answer_of (board_sheet (problem_of (words s.now) z) (genes_of (words s.now) z) (rule_of which (problem_of (words s.now) z) (genes_of (words s.now) z))) }
     ensures rows { Leaves (board_sheet (problem_of (words s.now) z) (genes_of (words s.now) z) (rule_of which (problem_of (words s.now) z) (genes_of (words s.now) z))) activities.old machines.old starts.old ends.old setups.old activities.new machines.new starts.new ends.new setups.new }
 {
     let count = place_by(which, s, z, table, order, begun, done, prepared);
@@ -118,10 +121,10 @@ pub fn write_placed(
     starts: &mut [u64],
     ends: &mut [u64],
     setups: &mut [u64],
-) -> Answer
+) -> Sheet
     requires taken { Taken s.now z table.now }
     requires roomy { Roomy 128 activities.old machines.old starts.old ends.old setups.old }
-    ensures answer { result ≡ answer_of (board_sheet (problem_of (words s.now) z) (genes_of (words s.now) z) (rule_of which (problem_of (words s.now) z) (genes_of (words s.now) z))) }
+    ensures answer { Ok result ≡ answer_of (board_sheet (problem_of (words s.now) z) (genes_of (words s.now) z) (rule_of which (problem_of (words s.now) z) (genes_of (words s.now) z))) }
     ensures rows { Leaves (board_sheet (problem_of (words s.now) z) (genes_of (words s.now) z) (rule_of which (problem_of (words s.now) z) (genes_of (words s.now) z))) activities.old machines.old starts.old ends.old setups.old activities.new machines.new starts.new ends.new setups.new }
 {
     let n = z.activities;

@@ -10,9 +10,10 @@ ghost use Rattle.trial.specs.Trial.{Ready};
 ghost use Rattle.search.specs.Search.{twelve_if, improve};
 ghost use Rattle.improving.specs.Improving.{told, tasks_over, machines_over, roomy, improved_in, answer_of, tasks_left, machines_left};
 
-use crate::Answer;
+use crate::Found;
 use crate::found::search_and_tell;
 use plan::Layout;
+use reader::{Reason, Refusal};
 
 // Outcome 12 where the lines contradict, else 13 or 14. The first seven buffers are work space, a cell for each activity.
 fn improve_in(
@@ -30,7 +31,7 @@ fn improve_in(
     ends: &mut [u64],
     tasks: &mut [usize],
     machines: &mut [usize],
-) -> Answer
+) -> Found
     requires taken { Taken s.now z table.now × (length cells.old ≡ 2048) × WellFormed z.activities z.machines (lines_in cells.old lens) }
     requires rooms { Rooms z.activities before.old after.old on.old places.old order.old starts.old ends.old × (128 ≤ length tasks.old) × (128 ≤ length machines.old) }
     ensures answer { result ≡ told (twelve_if (contradicts (problem_of (words s.now) z) (lines_in cells.old lens)) (problem_of (words s.now) z) (lines_in cells.old lens)) }
@@ -41,7 +42,7 @@ fn improve_in(
     if !timing::time_sequences(
         s, z, table, ways, cells, lens, before, after, on, places, order, starts, ends,
     ) {
-        return Answer::Contradictory;
+        return Found::Contradictory;
     }
     search_and_tell(
         s, z, table, ways, cells, lens, order, starts, ends, tasks, machines,
@@ -57,7 +58,7 @@ fn improve_lines(
     lens: [usize; 16],
     tasks: &mut [usize],
     machines: &mut [usize],
-) -> Answer
+) -> Found
     requires taken { Taken s.now z table.now × (length cells.old ≡ 2048) × WellFormed z.activities z.machines (lines_in cells.old lens) }
     requires in_bounds { (128 ≤ length tasks.old) × (128 ≤ length machines.old) }
     ensures answer { result ≡ told (twelve_if (contradicts (problem_of (words s.now) z) (lines_in cells.old lens)) (problem_of (words s.now) z) (lines_in cells.old lens)) }
@@ -98,18 +99,18 @@ fn improve_genes(
     cells: &mut [usize],
     tasks: &mut [usize],
     machines: &mut [usize],
-) -> Answer
+) -> Found
     requires { Taken s.now z table.now × (length cells.old ≡ 2048) × (128 ≤ length tasks.old) × (128 ≤ length machines.old) }
     ensures answer { result ≡ told (improve (problem_of (words s.now) z) (genes_of (words s.now) z)) }
     ensures tasks { tasks.new ≡ tasks_over (improve (problem_of (words s.now) z) (genes_of (words s.now) z)) tasks.old }
     ensures machines { machines.new ≡ machines_over (improve (problem_of (words s.now) z) (genes_of (words s.now) z)) machines.old }
 {
     if plan::limit(s, z) == 0 {
-        return Answer::NoSteps;
+        return Found::NoSteps;
     }
     let lot = genes::deal_lines(s, z, cells);
     if !lot.whole {
-        return Answer::Incomplete;
+        return Found::Incomplete;
     }
     let lens = lot.lens;
     improve_lines(s, z, table, cells, lens, tasks, machines)
@@ -133,20 +134,25 @@ fn is_roomy(cells: &[usize], tasks: &[usize], machines: &[usize]) -> bool
 
 // Improves a plan: searches from the lines that its Order and Assignment give. Where something better is found, its task numbers, in timing
 // order, and the machine of each activity are written over the first cells of the results; else nothing is. The cells are work space.
-pub fn improve(s: &[u8], cells: &mut [usize], tasks: &mut [usize], machines: &mut [usize]) -> Answer
+pub fn improve(s: &[u8], cells: &mut [usize], tasks: &mut [usize], machines: &mut [usize]) -> Result<Found, Refusal>
     ensures answer { result ≡ answer_of (improved_in s.now cells.old tasks.old machines.old) }
     ensures tasks { tasks.new ≡ tasks_left (improved_in s.now cells.old tasks.old machines.old) tasks.old }
     ensures machines { machines.new ≡ machines_left (improved_in s.now cells.old tasks.old machines.old) machines.old }
 {
     if !is_roomy(cells, tasks, machines) {
-        return Answer::Refused(6, 0);
+        return Err(Refusal {
+            reason: Reason::Room,
+            place: 0,
+        });
     }
     let mut table = intake::table_room();
-    let r = intake::take_in(s, &mut table);
-    let answer = r.answer;
-    if let reader::Answer::No(number, place) = answer {
-        return Answer::Refused(number, place);
-    }
-    let z = plan::layout_of(r);
-    improve_genes(s, z, &table, &mut cells[..2048], tasks, machines)
+    let z = intake::take_in(s, &mut table)?;
+    Ok(improve_genes(
+        s,
+        z,
+        &table,
+        &mut cells[..2048],
+        tasks,
+        machines,
+    ))
 }

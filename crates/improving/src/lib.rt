@@ -6,10 +6,9 @@ mod found;
 
 pub use call::improve;
 
-// A refusal's number and place; or the outcomes 10 to 14, with the bits of the best line fitness where there is one.
+// The outcomes 10 to 14, with the bits of the best line fitness where there is one.
 #[derive(Clone, Copy)]
-pub enum Answer {
-    Refused(u32, usize),
+pub enum Found {
     NoSteps,
     Incomplete,
     Contradictory,

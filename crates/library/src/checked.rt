@@ -3,17 +3,18 @@ ghost use Rattle.std.specs.Prelude.{◌≡◌};
 ghost use Rattle.checking.specs.Checking.{checked};
 ghost use Rattle.library.specs.Code.{check_code};
 
-use checking::Checked;
+use reader::Refusal;
+use sheet::Verdict;
 
 // The check's answer as three numbers.
-fn check_code(a: Checked) -> [u64; 3]
+fn check_code(a: Result<Verdict, Refusal>) -> [u64; 3]
     ensures { result ≡ check_code a }
 {
     match a {
-        Checked::Refused(number, place) => [number as u64, 0, place as u64],
-        Checked::Accepted => [0, 0, 0],
-        Checked::Bad(rule, row) => [0, rule as u64, row as u64],
-        Checked::Missing(activity) => [0, 10, activity as u64],
+        Err(refused) => [refused.reason.number() as u64, 0, refused.place as u64],
+        Ok(Verdict::Accepted) => [0, 0, 0],
+        Ok(Verdict::Bad(rule, row)) => [0, rule as u64, row as u64],
+        Ok(Verdict::Missing(activity)) => [0, 10, activity as u64],
     }
 }
 

@@ -10,14 +10,15 @@ pub mod timed;
 ghost use Rattle.std.specs.Prelude.{◌≡◌};
 ghost use Rattle.library.specs.Code.{code_of};
 
-use calls::Answer;
+use calls::Sheet;
+use reader::Refusal;
 
 // The answer of a call that writes a sheet, as four numbers.
-fn code_of(a: Answer) -> [u64; 4]
+fn code_of(a: Result<Sheet, Refusal>) -> [u64; 4]
     ensures { result ≡ code_of a }
 {
     match a {
-        Answer::Refused(number, place) => [number as u64, place as u64, 0, 0],
-        Answer::Rows(rows, bits) => [0, 0, rows as u64, bits],
+        Err(refused) => [refused.reason.number() as u64, refused.place as u64, 0, 0],
+        Ok(sheet) => [0, 0, sheet.rows as u64, sheet.bits],
     }
 }

@@ -3,22 +3,31 @@ ghost use Rattle.std.specs.Prelude.{◌≡◌};
 ghost use Rattle.looking.specs.Looking.{looked, answer_of, Leaves};
 ghost use Rattle.library.specs.Code.{look_code};
 
-use looking::Answer;
+use looking::Seen;
+use reader::Refusal;
 
 // An answer as seven numbers.
-fn look_code(a: Answer) -> [u64; 7]
+fn look_code(a: Result<Seen, Refusal>) -> [u64; 7]
     ensures { result ≡ look_code a }
 {
     match a {
-        Answer::Refused(number, place) => [number as u64, place as u64, 0, 0, 0, 0, 0],
-        Answer::Seen(path, moves, blocks, others, bits) => [
+        Err(refused) => [
+            refused.reason.number() as u64,
+            refused.place as u64,
             0,
             0,
-            path as u64,
-            moves as u64,
-            blocks as u64,
-            others as u64,
-            bits,
+            0,
+            0,
+            0,
+        ],
+        Ok(seen) => [
+            0,
+            0,
+            seen.path as u64,
+            seen.moves as u64,
+            seen.blocks as u64,
+            seen.others as u64,
+            seen.bits,
         ],
     }
 }

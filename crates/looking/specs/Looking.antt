@@ -1,6 +1,6 @@
 -- Document 01, "One search step", shown for lines that the caller gives: the critical path, every block move of it, the block moves and the
 -- reassignments that are kept, each with its rank, and the line fitness. Numbers 6, then 1 to 5, 7 and 8 as for timing; a refusal writes nothing.
-use Rattle.std.specs.Prelude.{ℕ, ◌≤◌, ◌≡◌, Bool, true, false, ◌&&◌, List, ◌++◌, leb, Float, length, take}
+use Rattle.std.specs.Prelude.{ℕ, ◌≤◌, ◌≡◌, Bool, true, false, ◌&&◌, List, ◌++◌, leb, Float, length, take, Result, Ok, Err}
 use Rattle.std.specs.Float.Ieee.{to_bits}
 use Rattle.std.specs.Float.{binary64}
 use Rattle.reader.specs.Answer.{Reading}
@@ -19,8 +19,11 @@ use Rattle.blocks.specs.BlockMoves.{block_moves}
 use Rattle.trial.specs.Trial.{moves_of}
 use Rattle.search.specs.Step.{placing_of, blocks_by, others_by}
 use Rattle.looking.specs.Rows.{rows_of, ranks_of}
-use Rattle.looking.specs.declared.Answer.{Answer}
-use Rattle.looking.specs.declared.Answer.TheVariants.{Refused, Seen}
+use Rattle.reader.specs.Refusals.{refusal}
+use Rattle.reader.specs.declared.refusal.Reason.{Reason}
+use Rattle.reader.specs.declared.refusal.Refusal.{Refusal}
+use Rattle.reader.specs.declared.refusal.Reason.TheVariants.{Room, Lines as Missed, Contradiction}
+use Rattle.looking.specs.declared.Seen.{Seen}
 
 -- ---- what a step sees
 
@@ -55,19 +58,27 @@ sight_of p lines =
 
 -- ---- what the call comes to
 
--- A refusal by its number and place, or what is seen.
+-- A refusal with its place, or what is seen.
 pub data Outcome : Type 0 where
-  no : (number place : ℕ) → Outcome
+  no : (reason : Reason) → (place : ℕ) → Outcome
   seen : Sight → Outcome
 
 -- How many activities, block moves, kept block moves and kept reassignments were written, and the bits of the fitness.
-abbrev pub answer_of : Outcome → Answer
-answer_of (no number place) = Refused number place
-answer_of (seen s) = Seen (length s.path) (length s.moves) (length s.blocks) (length s.others) (to_bits binary64 s.fitness)
+abbrev pub answer_of : Outcome → Result Seen Refusal
+answer_of (no reason place) = Err (refusal reason place)
+answer_of (seen s) =
+    Ok
+    (record {
+      path = length s.path;
+      moves = length s.moves;
+      blocks = length s.blocks;
+      others = length s.others;
+      bits = to_bits binary64 s.fitness;
+    })
 
 -- What stands over the first cells of a buffer; a refusal leaves it as it was.
 abbrev pub left : (Sight → List ℕ) → Outcome → (cells : List ℕ) → List ℕ
-left numbers (no number place) cells = cells
+left numbers (no reason place) cells = cells
 left numbers (seen s) cells = over (numbers s) cells
 
 -- The kept moves are the block moves, then the reassignments; their ranks stand in the same order.
@@ -86,26 +97,26 @@ pub record Leaves (o : Outcome) (p₀ m₀ k₀ r₀ p m k r : List ℕ) : Type 
 -- ---- a plan, and its buffers
 
 abbrev pub eight_if : Bool → Problem → Lines → Outcome
-eight_if true p lines = no 8 0
+eight_if true p lines = no Contradiction 0
 eight_if false p lines = seen (sight_of p lines)
 
 abbrev pub seven_unless : Bool → Problem → Lines → Outcome
 seven_unless true p lines = eight_if (contradicts p lines) p lines
-seven_unless false p lines = no 7 0
+seven_unless false p lines = no Missed 0
 
 abbrev pub seen_lines : Problem → Lines → Outcome
 seen_lines p lines = seven_unless (well_formed p.n p.machines lines) p lines
 
 abbrev pub seen_if : ReadersAnswer → (bytes : List ℕ) → Reading → Lines → Outcome
 seen_if Accepted s r lines = seen_lines (problem_in s r) lines
-seen_if (No number place) s r lines = no number place
+seen_if (No reason place) s r lines = no reason place
 
 abbrev pub seen_plan : (bytes : List ℕ) → Lines → Outcome
 seen_plan s lines = seen_if (taken_in s).answer s (taken_in s) lines
 
 abbrev pub six_unless : Bool → Outcome → Outcome
 six_unless true o = o
-six_unless false o = no 6 0
+six_unless false o = no Room 0
 
 -- Number 6: 2,048 cells for the lines; 128 places for the path, the kept moves and their ranks; 256 rows of six for the block moves.
 abbrev pub roomy : (cells path moves kept ranks : List ℕ) → Bool

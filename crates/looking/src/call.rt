@@ -8,9 +8,10 @@ ghost use Rattle.timing.specs.Placing.{Rooms};
 ghost use Rattle.calls.specs.Asked.{Taken};
 ghost use Rattle.looking.specs.Looking.{answer_of, Leaves, eight_if, seen_lines, roomy, looked};
 
-use crate::Answer;
+use crate::Seen;
 use crate::sight::see;
 use plan::Layout;
+use reader::{Reason, Refusal};
 
 // Number 8 where the lines contradict, else what a step sees. The ten buffers before the results are work space.
 fn look_in(
@@ -33,7 +34,7 @@ fn look_in(
     moves: &mut [usize],
     kept: &mut [usize],
     ranks: &mut [u64],
-) -> Answer
+) -> Result<Seen, Refusal>
     requires taken { Taken s.now z table.now × (length cells.now ≡ 2048) × WellFormed z.activities z.machines (lines_in cells.now lens) }
     requires rooms { Rooms z.activities before.old after.old on.old places.old order.old starts.old ends.old × (length trail.old ≡ z.activities) × (length tail.old ≡ z.activities) × (128 ≤ length heads.old) }
     requires in_bounds { (128 ≤ length path.old) × (1536 ≤ length moves.old) × (128 ≤ length kept.old) × (128 ≤ length ranks.old) }
@@ -44,12 +45,15 @@ fn look_in(
     if !timing::time_sequences(
         s, z, table, ways, cells, lens, before, after, on, places, order, starts, ends,
     ) {
-        return Answer::Refused(8, 0);
+        return Err(Refusal {
+            reason: Reason::Contradiction,
+            place: 0,
+        });
     }
-    see(
+    Ok(see(
         s, z, table, ways, cells, lens, order, starts, ends, before, after, on, places, trail,
         tail, heads, path, moves, kept, ranks,
-    )
+    ))
 }
 
 // The same with work space of its own.
@@ -63,7 +67,7 @@ fn look_lines(
     moves: &mut [usize],
     kept: &mut [usize],
     ranks: &mut [u64],
-) -> Answer
+) -> Result<Seen, Refusal>
     requires taken { Taken s.now z table.now × (length cells.now ≡ 2048) × WellFormed z.activities z.machines (lines_in cells.now lens) }
     requires in_bounds { (128 ≤ length path.old) × (1536 ≤ length moves.old) × (128 ≤ length kept.old) × (128 ≤ length ranks.old) }
     ensures answer { result ≡ answer_of (eight_if (contradicts (problem_of (words s.now) z) (lines_in cells.now lens)) (problem_of (words s.now) z) (lines_in cells.now lens)) }
@@ -114,7 +118,7 @@ fn look_known(
     moves: &mut [usize],
     kept: &mut [usize],
     ranks: &mut [u64],
-) -> Answer
+) -> Result<Seen, Refusal>
     requires taken { Taken s.now z table.now × (length cells.now ≡ 2048) }
     requires in_bounds { (128 ≤ length path.old) × (1536 ≤ length moves.old) × (128 ≤ length kept.old) × (128 ≤ length ranks.old) }
     ensures answer { result ≡ answer_of (seen_lines (problem_of (words s.now) z) (lines_in cells.now lens)) }
@@ -122,7 +126,10 @@ fn look_known(
 {
     let mut met = [0usize; 128];
     if !lines::well_formed(z.activities, z.machines, cells, lens, &mut met) {
-        return Answer::Refused(7, 0);
+        return Err(Refusal {
+            reason: Reason::Lines,
+            place: 0,
+        });
     }
     look_lines(s, z, table, cells, lens, path, moves, kept, ranks)
 }
@@ -160,19 +167,17 @@ pub fn look(
     moves: &mut [usize],
     kept: &mut [usize],
     ranks: &mut [u64],
-) -> Answer
+) -> Result<Seen, Refusal>
     ensures answer { result ≡ answer_of (looked s.now cells.now lens path.old moves.old kept.old ranks.old) }
     ensures left { Leaves (looked s.now cells.now lens path.old moves.old kept.old ranks.old) path.old moves.old kept.old ranks.old path.new moves.new kept.new ranks.new }
 {
     if !is_roomy(cells, path, moves, kept, ranks) {
-        return Answer::Refused(6, 0);
+        return Err(Refusal {
+            reason: Reason::Room,
+            place: 0,
+        });
     }
     let mut table = intake::table_room();
-    let r = intake::take_in(s, &mut table);
-    let answer = r.answer;
-    if let reader::Answer::No(number, place) = answer {
-        return Answer::Refused(number, place);
-    }
-    let z = plan::layout_of(r);
+    let z = intake::take_in(s, &mut table)?;
     look_known(s, z, &table, &cells[..2048], lens, path, moves, kept, ranks)
 }

@@ -8,10 +8,12 @@ mod sight;
 
 pub use call::look;
 
-// A refusal's number and place; or how many activities of the path, block moves, kept block moves and kept reassignments were written, and the
-// bits of the line fitness.
+// How many activities of the path, block moves, kept block moves and kept reassignments were written, and the bits of the line fitness.
 #[derive(Clone, Copy)]
-pub enum Answer {
-    Refused(u32, usize),
-    Seen(usize, usize, usize, usize, u64),
+pub struct Seen {
+    pub path: usize,
+    pub moves: usize,
+    pub blocks: usize,
+    pub others: usize,
+    pub bits: u64,
 }

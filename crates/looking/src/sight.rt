@@ -1,5 +1,5 @@
 // What a step looks at on timed lines: the path with all its block moves, and the moves that are kept.
-ghost use Rattle.std.specs.Prelude.{◌≡◌, ◌++◌, ◌≤◌, length};
+ghost use Rattle.std.specs.Prelude.{◌≡◌, ◌++◌, ◌≤◌, length, Ok};
 ghost use Rattle.words.specs.Words.{words};
 ghost use Rattle.plan.specs.Input.{problem_of};
 ghost use Rattle.lines.specs.Lines.{lines_in};
@@ -11,7 +11,7 @@ ghost use Rattle.search.specs.Asked.{Lined, Space};
 ghost use Rattle.looking.specs.Rows.{rows_of, ranks_of};
 ghost use Rattle.looking.specs.Looking.{path_on, moves_on, blocks_on, others_on, sight_of, seen, answer_of, Leaves};
 
-use crate::Answer;
+use crate::Seen;
 use crate::kept::write_kept;
 use crate::listing::list_moves;
 use plan::Layout;
@@ -135,10 +135,10 @@ pub fn see(
     moves: &mut [usize],
     kept: &mut [usize],
     ranks: &mut [u64],
-) -> Answer
+) -> Seen
     requires ready { Ready s.now z table.now ways × Lined z.activities z.machines cells.now lens × Timed (problem_of (words s.now) z) (lines_in cells.now lens) order.now starts.now ends.now }
     requires lines_held { LinesHeld z.activities (lines_in cells.now lens) (links_of before.now after.now machines.now places.now) × Space z.activities before.now after.now machines.now places.now trail.old tail.old heads.old × (128 ≤ length path.old) × (1536 ≤ length moves.old) × (128 ≤ length kept.old) × (128 ≤ length ranks.old) }
-    ensures answer { result ≡ answer_of (seen (sight_of (problem_of (words s.now) z) (lines_in cells.now lens))) }
+    ensures answer { Ok result ≡ answer_of (seen (sight_of (problem_of (words s.now) z) (lines_in cells.now lens))) }
     ensures left { Leaves (seen (sight_of (problem_of (words s.now) z) (lines_in cells.now lens))) path.old moves.old kept.old ranks.old path.new moves.new kept.new ranks.new }
 {
     let walked = see_path(
@@ -150,5 +150,11 @@ pub fn see(
         trail, tail, heads, kept, ranks,
     );
     let bits = fitness::fitness_bits(s, z, ends);
-    Answer::Seen(walked.path, walked.moves, held.blocks, held.others, bits)
+    Seen {
+        path: walked.path,
+        moves: walked.moves,
+        blocks: held.blocks,
+        others: held.others,
+        bits,
+    }
 }

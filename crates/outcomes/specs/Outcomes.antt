@@ -1,19 +1,18 @@
 -- Document 01, "How tightly each call is bound": the public calls with their input, what can come out of one, and which of that its contract
 -- permits. What comes out is the answer and the content of each buffer that the call may write, but for Improve's cells, which are work space.
 -- Document 01, "Numbers on the screen": a refusal writes nothing, and of Improve's outcomes only 14 writes.
-use Rattle.std.specs.Prelude.{ℕ, ◌<◌, ◌≡◌, List, ℤ, length}
-use Rattle.calls.specs.declared.Answer.{Answer}
-use Rattle.calls.specs.declared.Answer.TheVariants as answer
+use Rattle.std.specs.Prelude.{ℕ, ◌<◌, ◌≡◌, List, ℤ, length, Result, Ok, Err}
+use Rattle.reader.specs.declared.refusal.Refusal.{Refusal}
+use Rattle.sheet.specs.declared.Verdict.{Verdict}
+use Rattle.calls.specs.declared.Sheet.{Sheet}
 use Rattle.calls.specs.Outcome as sheets
 use Rattle.calls.specs.Timing.{timed, timed_order, timed_again}
 use Rattle.decoding.specs.Decoding as decoders
-use Rattle.checking.specs.declared.Checked.{Checked}
 use Rattle.checking.specs.Checking.{checked}
-use Rattle.improving.specs.declared.Answer.{Answer as Improved}
-use Rattle.improving.specs.declared.Answer.TheVariants as improved
+use Rattle.improving.specs.declared.Found.{Found}
+use Rattle.improving.specs.declared.Found.TheVariants.{NoSteps, Incomplete, Contradictory, NothingBetter, Better}
 use Rattle.improving.specs.Improving as improving
-use Rattle.looking.specs.declared.Answer.{Answer as Looked}
-use Rattle.looking.specs.declared.Answer.TheVariants as looked
+use Rattle.looking.specs.declared.Seen.{Seen}
 use Rattle.looking.specs.Looking as looking
 use Rattle.terminal_text.specs.Shown.{enough, shown_over, shown_length}
 
@@ -54,21 +53,21 @@ pub record Ended (Told Lent : Type 0) : Type 0 where
   pub lent : Lent
 
 abbrev pub Outcome : Call → Type 0
-Outcome (time bytes cells lens b) = Ended Answer Rows
-Outcome (time_order bytes b) = Ended Answer Rows
+Outcome (time bytes cells lens b) = Ended (Result Sheet Refusal) Rows
+Outcome (time_order bytes b) = Ended (Result Sheet Refusal) Rows
 Outcome (time_again bytes cells lens times) = ℕ
-Outcome (in_order bytes b) = Ended Answer Rows
-Outcome (active bytes b) = Ended Answer Rows
-Outcome (decode bytes b) = Ended Answer Rows
-Outcome (check bytes rows) = Checked
-Outcome (improve bytes cells b) = Ended Improved NewGenes
-Outcome (look bytes cells lens b) = Ended Looked Views
+Outcome (in_order bytes b) = Ended (Result Sheet Refusal) Rows
+Outcome (active bytes b) = Ended (Result Sheet Refusal) Rows
+Outcome (decode bytes b) = Ended (Result Sheet Refusal) Rows
+Outcome (check bytes rows) = Result Verdict Refusal
+Outcome (improve bytes cells b) = Ended (Result Found Refusal) NewGenes
+Outcome (look bytes cells lens b) = Ended (Result Seen Refusal) Views
 Outcome (show bytes out) = Ended ℕ (List ℕ)
 
 -- ---- what the contracts say
 
 -- The two clauses of every call that writes a sheet: what it comes to is told, and left in the five buffers.
-abbrev pub Writes : ((a m s e u : List ℕ) → sheets.Outcome) → Rows → Ended Answer Rows → Type 0
+abbrev pub Writes : ((a m s e u : List ℕ) → sheets.Outcome) → Rows → Ended (Result Sheet Refusal) Rows → Type 0
 Writes comes b x =
     let o = comes b.activities b.machines b.starts b.ends b.setups in
     (x.answer ≡ sheets.answer_of o)
@@ -76,14 +75,14 @@ Writes comes b x =
     x.lent.activities x.lent.machines x.lent.starts x.lent.ends x.lent.setups
 
 -- Improve's three.
-abbrev pub Improves : improving.Outcome → NewGenes → Ended Improved NewGenes → Type 0
+abbrev pub Improves : improving.Outcome → NewGenes → Ended (Result Found Refusal) NewGenes → Type 0
 Improves o b x =
     (x.answer ≡ improving.answer_of o)
     × (x.lent.tasks ≡ improving.tasks_left o b.tasks)
     × (x.lent.machines ≡ improving.machines_left o b.machines)
 
 -- The two of `look`.
-abbrev pub Shows : looking.Outcome → Views → Ended Looked Views → Type 0
+abbrev pub Shows : looking.Outcome → Views → Ended (Result Seen Refusal) Views → Type 0
 Shows o b x =
     (x.answer ≡ looking.answer_of o)
     × looking.Leaves o b.path b.moves b.kept b.ranks x.lent.path x.lent.moves x.lent.kept x.lent.ranks
@@ -103,21 +102,17 @@ Permitted (show bytes out) x = (x.lent ≡ shown_over bytes out) × (x.answer �
 -- ---- where nothing is written
 
 -- Answers beside which no result is written: a refusal; of Improve each but 14.
-abbrev pub refuses : Answer → Type 0
-refuses (answer.Refused number place) = Unit {0}
-refuses (answer.Rows rows bits) = ⊥
+abbrev pub refuses : {Told : Type 0} → Result Told Refusal → Type 0
+refuses (Err refused) = Unit {0}
+refuses (Ok told) = ⊥
 
-abbrev pub finds_nothing : Improved → Type 0
-finds_nothing (improved.Refused number place) = Unit {0}
-finds_nothing improved.NoSteps = Unit {0}
-finds_nothing improved.Incomplete = Unit {0}
-finds_nothing improved.Contradictory = Unit {0}
-finds_nothing (improved.NothingBetter bits) = Unit {0}
-finds_nothing (improved.Better bits) = ⊥
-
-abbrev pub sees_nothing : Looked → Type 0
-sees_nothing (looked.Refused number place) = Unit {0}
-sees_nothing (looked.Seen path moves blocks others bits) = ⊥
+abbrev pub finds_nothing : Result Found Refusal → Type 0
+finds_nothing (Err refused) = Unit {0}
+finds_nothing (Ok NoSteps) = Unit {0}
+finds_nothing (Ok Incomplete) = Unit {0}
+finds_nothing (Ok Contradictory) = Unit {0}
+finds_nothing (Ok (NothingBetter bits)) = Unit {0}
+finds_nothing (Ok (Better bits)) = ⊥
 
 -- `time_again` and `check` have no buffer to write; `show` puts a refusal as text, and nothing where its buffer is too short.
 abbrev pub Quiet : (c : Call) → Outcome c → Type 0
@@ -129,7 +124,7 @@ Quiet (active bytes b) x = refuses x.answer
 Quiet (decode bytes b) x = refuses x.answer
 Quiet (check bytes rows) x = Unit {0}
 Quiet (improve bytes cells b) x = finds_nothing x.answer
-Quiet (look bytes cells lens b) x = sees_nothing x.answer
+Quiet (look bytes cells lens b) x = refuses x.answer
 Quiet (show bytes out) x = length out < enough
 
 -- The result buffers hold what they held before the call.

@@ -6,6 +6,7 @@ use Rattle.std.specs.Float.Ieee.{to_bits}
 use Rattle.std.specs.Float.{binary64}
 use Rattle.words.specs.Text.{written}
 use Rattle.writing.specs.Writing.{Put}
+use Rattle.reader.specs.Refusals.{number_of}
 use Rattle.calls.specs.Outcome.{Outcome, no, sheet}
 use Rattle.decode.specs.Decode.{better_placement}
 use Rattle.decoding.specs.Decoding.{decoded_plan}
@@ -16,7 +17,7 @@ use Rattle.printing.specs.Printing.{sheet_text, refusal_text}
 
 -- A sheet, the outcome above it; or a refusal. The fitness is the sheet's own.
 abbrev pub sheet_or : (outcome : ℕ) → Outcome → List ℕ
-sheet_or outcome (no n place) = refusal_text n place
+sheet_or outcome (no reason place) = refusal_text (number_of reason) place
 sheet_or outcome (sheet rows c f) = sheet_text outcome (to_bits binary64 f) c.activities c.machines c.starts c.ends c.setups
 
 abbrev pub decode_text : (outcome : ℕ) → (bytes : List ℕ) → List ℕ
@@ -31,7 +32,7 @@ plan_shown (nothing_better f) s = s
 plan_shown (improved f tasks machines) s = renewed_plan s tasks machines
 
 abbrev pub shown_if : Improving → (bytes : List ℕ) → List ℕ
-shown_if (refused n place) s = refusal_text n place
+shown_if (refused reason place) s = refusal_text (number_of reason) place
 shown_if (came i) s = decode_text (number i) (plan_shown i s)
 
 -- What the terminal shows for an input.

@@ -5,12 +5,13 @@ ghost use Rattle.std.specs.Prelude.{◌≤◌, ◌≡◌, length, take};
 ghost use Rattle.reader.specs.Answer.{Accepted};
 ghost use Rattle.plan.specs.Found.{layout_of};
 ghost use Rattle.intake.specs.Intake.{taken_in};
-ghost use Rattle.printing.specs.Printing.{sheet_text};
+ghost use Rattle.printing.specs.Printing.{sheet_text, refusal_text};
+ghost use Rattle.reader.specs.Refusals.{number_of};
 ghost use Rattle.renewed.specs.Meaning.{renewed_plan};
 ghost use Rattle.terminal_text.specs.Shown.{decode_text, shown, enough, PutShort, Within, shown_over, shown_length};
 
-use calls::Answer;
-use improving::Answer as Improved;
+use improving::Found;
+use reader::Refusal;
 
 // Puts a sheet of n rows, which are the first cells of five columns.
 fn put_first(
@@ -40,6 +41,14 @@ fn put_first(
     )
 }
 
+// Puts a refusal.
+fn show_refusal(refused: Refusal, out: &mut [u8]) -> usize
+    requires { enough ≤ length out.old }
+    ensures { PutShort out.old (refusal_text (number_of refused.reason) refused.place) out.new result }
+{
+    printing::put_refusal(out, refused.reason.number() as u64, refused.place as u64)
+}
+
 // Puts the better sheet of a plan and the outcome beside it, or the plan's refusal.
 fn show_sheet(s: &[u8], outcome: u64, out: &mut [u8]) -> usize
     requires { enough ≤ length out.old }
@@ -59,15 +68,13 @@ fn show_sheet(s: &[u8], outcome: u64, out: &mut [u8]) -> usize
         &mut setups,
     );
     match answer {
-        Answer::Refused(number, place) => {
-            printing::put_refusal(out, number as u64, place as u64)
-        }
-        Answer::Rows(n, bits) => {
+        Err(refused) => show_refusal(refused, out),
+        Ok(sheet) => {
             put_first(
                 out,
                 outcome,
-                n,
-                bits,
+                sheet.rows,
+                sheet.bits,
                 &activities,
                 &machines,
                 &starts,
@@ -83,8 +90,8 @@ fn show_renewed(s: &[u8], tasks: &[usize], machines: &[usize], out: &mut [u8]) -
     requires { ((taken_in s.now).answer ≡ Accepted) × (128 ≤ length tasks.now) × (128 ≤ length machines.now) × (enough ≤ length out.old) }
     ensures { PutShort out.old (decode_text 14 (renewed_plan s.now (take (layout_of (taken_in s.now)).activities tasks.now) (take (layout_of (taken_in s.now)).activities machines.now))) out.new result }
 {
-    let r = reader::read(s);
-    let z = plan::layout_of(r);
+    let read = reader::read(s).unwrap();
+    let z = plan::layout_of(read);
     let n = z.activities;
     let k = z.at.order;
     let mut bytes = [0u8; 65536];
@@ -106,14 +113,12 @@ fn show_in(
 {
     let answer = improving::improve(s, cells, tasks, machines);
     match answer {
-        Improved::Refused(number, place) => {
-            printing::put_refusal(out, number as u64, place as u64)
-        }
-        Improved::NoSteps => show_sheet(s, 10, out),
-        Improved::Incomplete => show_sheet(s, 11, out),
-        Improved::Contradictory => show_sheet(s, 12, out),
-        Improved::NothingBetter(_line) => show_sheet(s, 13, out),
-        Improved::Better(_line) => show_renewed(s, tasks, machines, out),
+        Err(refused) => show_refusal(refused, out),
+        Ok(Found::NoSteps) => show_sheet(s, 10, out),
+        Ok(Found::Incomplete) => show_sheet(s, 11, out),
+        Ok(Found::Contradictory) => show_sheet(s, 12, out),
+        Ok(Found::NothingBetter(_line)) => show_sheet(s, 13, out),
+        Ok(Found::Better(_line)) => show_renewed(s, tasks, machines, out),
     }
 }
 
