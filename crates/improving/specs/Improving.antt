@@ -13,8 +13,8 @@ use Rattle.reader.specs.Refusals.{refusal}
 use Rattle.reader.specs.declared.refusal.Reason.{Reason}
 use Rattle.reader.specs.declared.refusal.Refusal.{Refusal}
 use Rattle.reader.specs.declared.refusal.Reason.TheVariants.{Room}
-use Rattle.improving.specs.declared.Found.{Found}
-use Rattle.improving.specs.declared.Found.TheVariants.{NoSteps, Incomplete, Contradictory, NothingBetter, Better}
+use Rattle.improving.specs.declared.Ending.{Ending}
+use Rattle.improving.specs.declared.Ending.TheVariants.{NoSteps, Incomplete, Contradictory, NothingBetter, Better}
 
 -- A refusal with its place, or what the search comes to.
 pub data Outcome : Type 0 where
@@ -22,14 +22,14 @@ pub data Outcome : Type 0 where
   came : Improved → Outcome
 
 -- The answer to what the search comes to; a fitness is told by its bits.
-abbrev pub told : Improved → Found
+abbrev pub told : Improved → Ending
 told no_steps = NoSteps
 told incomplete = Incomplete
 told contradictory = Contradictory
 told (nothing_better f) = NothingBetter (to_bits binary64 f)
 told (improved f tasks machines) = Better (to_bits binary64 f)
 
-abbrev pub answer_of : Outcome → Result Found Refusal
+abbrev pub answer_of : Outcome → Result Ending Refusal
 answer_of (no reason place) = Err (refusal reason place)
 answer_of (came i) = Ok (told i)
 

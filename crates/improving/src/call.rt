@@ -10,7 +10,7 @@ ghost use Rattle.trial.specs.Trial.{Ready};
 ghost use Rattle.search.specs.Search.{twelve_if, improve};
 ghost use Rattle.improving.specs.Improving.{told, tasks_over, machines_over, roomy, improved_in, answer_of, tasks_left, machines_left};
 
-use crate::Found;
+use crate::Ending;
 use crate::found::search_and_tell;
 use plan::Layout;
 use reader::{Reason, Refusal};
@@ -31,7 +31,7 @@ fn improve_in(
     ends: &mut [u64],
     tasks: &mut [usize],
     machines: &mut [usize],
-) -> Found
+) -> Ending
     requires taken { Taken s.now z table.now × (length cells.old ≡ 2048) × WellFormed z.activities z.machines (lines_in cells.old lens) }
     requires rooms { Rooms z.activities before.old after.old on.old places.old order.old starts.old ends.old × (128 ≤ length tasks.old) × (128 ≤ length machines.old) }
     ensures answer { result ≡ told (twelve_if (contradicts (problem_of (words s.now) z) (lines_in cells.old lens)) (problem_of (words s.now) z) (lines_in cells.old lens)) }
@@ -42,7 +42,7 @@ fn improve_in(
     if !timing::time_sequences(
         s, z, table, ways, cells, lens, before, after, on, places, order, starts, ends,
     ) {
-        return Found::Contradictory;
+        return Ending::Contradictory;
     }
     search_and_tell(
         s, z, table, ways, cells, lens, order, starts, ends, tasks, machines,
@@ -58,7 +58,7 @@ fn improve_lines(
     lens: [usize; 16],
     tasks: &mut [usize],
     machines: &mut [usize],
-) -> Found
+) -> Ending
     requires taken { Taken s.now z table.now × (length cells.old ≡ 2048) × WellFormed z.activities z.machines (lines_in cells.old lens) }
     requires in_bounds { (128 ≤ length tasks.old) × (128 ≤ length machines.old) }
     ensures answer { result ≡ told (twelve_if (contradicts (problem_of (words s.now) z) (lines_in cells.old lens)) (problem_of (words s.now) z) (lines_in cells.old lens)) }
@@ -99,18 +99,18 @@ fn improve_genes(
     cells: &mut [usize],
     tasks: &mut [usize],
     machines: &mut [usize],
-) -> Found
+) -> Ending
     requires { Taken s.now z table.now × (length cells.old ≡ 2048) × (128 ≤ length tasks.old) × (128 ≤ length machines.old) }
     ensures answer { result ≡ told (improve (problem_of (words s.now) z) (genes_of (words s.now) z)) }
     ensures tasks { tasks.new ≡ tasks_over (improve (problem_of (words s.now) z) (genes_of (words s.now) z)) tasks.old }
     ensures machines { machines.new ≡ machines_over (improve (problem_of (words s.now) z) (genes_of (words s.now) z)) machines.old }
 {
     if plan::limit(s, z) == 0 {
-        return Found::NoSteps;
+        return Ending::NoSteps;
     }
     let lot = genes::deal_lines(s, z, cells);
     if !lot.whole {
-        return Found::Incomplete;
+        return Ending::Incomplete;
     }
     let lens = lot.lens;
     improve_lines(s, z, table, cells, lens, tasks, machines)
@@ -134,7 +134,7 @@ fn is_roomy(cells: &[usize], tasks: &[usize], machines: &[usize]) -> bool
 
 // Improves a plan: searches from the lines that its Order and Assignment give. Where something better is found, its task numbers, in timing
 // order, and the machine of each activity are written over the first cells of the results; else nothing is. The cells are work space.
-pub fn improve(s: &[u8], cells: &mut [usize], tasks: &mut [usize], machines: &mut [usize]) -> Result<Found, Refusal>
+pub fn improve(s: &[u8], cells: &mut [usize], tasks: &mut [usize], machines: &mut [usize]) -> Result<Ending, Refusal>
     ensures answer { result ≡ answer_of (improved_in s.now cells.old tasks.old machines.old) }
     ensures tasks { tasks.new ≡ tasks_left (improved_in s.now cells.old tasks.old machines.old) tasks.old }
     ensures machines { machines.new ≡ machines_left (improved_in s.now cells.old tasks.old machines.old) machines.old }

@@ -10,7 +10,7 @@ ghost use Rattle.search.specs.Asked.{Lined};
 ghost use Rattle.search.specs.Search.{saved_of, searched, answer, thirteen_or};
 ghost use Rattle.improving.specs.Improving.{told, tasks_over, machines_over};
 
-use crate::Found;
+use crate::Ending;
 use plan::Layout;
 use search::Finish;
 use steps::search_lines;
@@ -70,7 +70,7 @@ fn tell(
     on: &[usize],
     tasks: &mut [usize],
     machines: &mut [usize],
-) -> Found
+) -> Ending
     requires { T (not (is_nan f.best)) × (length found.now ≤ length tasks.old) × (length on.now ≤ length machines.old) }
     ensures answer { result ≡ told (answer (saved_of f.found found.now on.now) f.best) }
     ensures tasks { tasks.new ≡ tasks_over (answer (saved_of f.found found.now on.now) f.best) tasks.old }
@@ -79,11 +79,11 @@ fn tell(
     let best = f.best;
     let bits = f64::to_bits(best);
     if !f.found {
-        return Found::NothingBetter(bits);
+        return Ending::NothingBetter(bits);
     }
     rows::copy_over(found, tasks);
     rows::copy_over(on, machines);
-    Found::Better(bits)
+    Ending::Better(bits)
 }
 
 // Searches from timed lines, and tells outcome 13 or 14.
@@ -99,7 +99,7 @@ pub fn search_and_tell(
     ends: &mut [u64],
     tasks: &mut [usize],
     machines: &mut [usize],
-) -> Found
+) -> Ending
     requires ready { Ready s.now z table.now ways × Lined z.activities z.machines cells.old lens × Timed (problem_of (words s.now) z) (lines_in cells.old lens) order.old starts.old ends.old }
     requires kept { Kept z.activities order.old starts.old ends.old × (128 ≤ length tasks.old) × (128 ≤ length machines.old) }
     ensures answer { result ≡ told (thirteen_or (searched (problem_of (words s.now) z) (lines_in cells.old lens))) }

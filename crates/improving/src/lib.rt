@@ -8,7 +8,7 @@ pub use call::improve;
 
 // The outcomes 10 to 14, with the bits of the best line fitness where there is one.
 #[derive(Clone, Copy)]
-pub enum Found {
+pub enum Ending {
     NoSteps,
     Incomplete,
     Contradictory,

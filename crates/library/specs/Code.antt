@@ -5,8 +5,8 @@ use Rattle.reader.specs.declared.refusal.Refusal.{Refusal}
 use Rattle.calls.specs.declared.Sheet.{Sheet}
 use Rattle.sheet.specs.declared.Verdict.{Verdict}
 use Rattle.sheet.specs.declared.Verdict.TheVariants.{Accepted, Bad, Missing}
-use Rattle.improving.specs.declared.Found.{Found}
-use Rattle.improving.specs.declared.Found.TheVariants.{NoSteps, Incomplete, Contradictory, NothingBetter, Better}
+use Rattle.improving.specs.declared.Ending.{Ending}
+use Rattle.improving.specs.declared.Ending.TheVariants.{NoSteps, Incomplete, Contradictory, NothingBetter, Better}
 use Rattle.looking.specs.declared.Seen.{Seen}
 
 -- A call that writes a sheet: the number and the place of a refusal; or no refusal, how many rows, and the bits of their fitness.
@@ -23,7 +23,7 @@ check_code (Ok (Missing activity)) = 0 ∷ 10 ∷ activity ∷ []
 
 -- An answer of Improve as three numbers: the number and the place of a refusal, and no fitness; or the outcome, 0, and the bits of the best line
 -- fitness, 0 where there is none.
-abbrev pub improve_code : Result Found Refusal → List ℕ
+abbrev pub improve_code : Result Ending Refusal → List ℕ
 improve_code (Err refused) = number_of refused.reason ∷ refused.place ∷ 0 ∷ []
 improve_code (Ok NoSteps) = 10 ∷ 0 ∷ 0 ∷ []
 improve_code (Ok Incomplete) = 11 ∷ 0 ∷ 0 ∷ []

@@ -3,20 +3,20 @@ ghost use Rattle.std.specs.Prelude.{◌≡◌};
 ghost use Rattle.improving.specs.Improving.{improved_in, answer_of, tasks_left, machines_left};
 ghost use Rattle.library.specs.Code.{improve_code};
 
-use improving::Found;
+use improving::Ending;
 use reader::Refusal;
 
 // An answer as three numbers.
-fn improve_code(a: Result<Found, Refusal>) -> [u64; 3]
+fn improve_code(a: Result<Ending, Refusal>) -> [u64; 3]
     ensures { result ≡ improve_code a }
 {
     match a {
         Err(refused) => [refused.reason.number() as u64, refused.place as u64, 0],
-        Ok(Found::NoSteps) => [10, 0, 0],
-        Ok(Found::Incomplete) => [11, 0, 0],
-        Ok(Found::Contradictory) => [12, 0, 0],
-        Ok(Found::NothingBetter(bits)) => [13, 0, bits],
-        Ok(Found::Better(bits)) => [14, 0, bits],
+        Ok(Ending::NoSteps) => [10, 0, 0],
+        Ok(Ending::Incomplete) => [11, 0, 0],
+        Ok(Ending::Contradictory) => [12, 0, 0],
+        Ok(Ending::NothingBetter(bits)) => [13, 0, bits],
+        Ok(Ending::Better(bits)) => [14, 0, bits],
     }
 }
 

@@ -9,8 +9,8 @@ use Rattle.calls.specs.Outcome as sheets
 use Rattle.calls.specs.Timing.{timed, timed_order, timed_again}
 use Rattle.decoding.specs.Decoding as decoders
 use Rattle.checking.specs.Checking.{checked}
-use Rattle.improving.specs.declared.Found.{Found}
-use Rattle.improving.specs.declared.Found.TheVariants.{NoSteps, Incomplete, Contradictory, NothingBetter, Better}
+use Rattle.improving.specs.declared.Ending.{Ending}
+use Rattle.improving.specs.declared.Ending.TheVariants.{NoSteps, Incomplete, Contradictory, NothingBetter, Better}
 use Rattle.improving.specs.Improving as improving
 use Rattle.looking.specs.declared.Seen.{Seen}
 use Rattle.looking.specs.Looking as looking
@@ -60,7 +60,7 @@ Outcome (in_order bytes b) = Ended (Result Sheet Refusal) Rows
 Outcome (active bytes b) = Ended (Result Sheet Refusal) Rows
 Outcome (decode bytes b) = Ended (Result Sheet Refusal) Rows
 Outcome (check bytes rows) = Result Verdict Refusal
-Outcome (improve bytes cells b) = Ended (Result Found Refusal) NewGenes
+Outcome (improve bytes cells b) = Ended (Result Ending Refusal) NewGenes
 Outcome (look bytes cells lens b) = Ended (Result Seen Refusal) Views
 Outcome (show bytes out) = Ended ℕ (List ℕ)
 
@@ -75,7 +75,7 @@ Writes comes b x =
     x.lent.activities x.lent.machines x.lent.starts x.lent.ends x.lent.setups
 
 -- Improve's three.
-abbrev pub Improves : improving.Outcome → NewGenes → Ended (Result Found Refusal) NewGenes → Type 0
+abbrev pub Improves : improving.Outcome → NewGenes → Ended (Result Ending Refusal) NewGenes → Type 0
 Improves o b x =
     (x.answer ≡ improving.answer_of o)
     × (x.lent.tasks ≡ improving.tasks_left o b.tasks)
@@ -106,7 +106,7 @@ abbrev pub refuses : {Told : Type 0} → Result Told Refusal → Type 0
 refuses (Err refused) = Unit {0}
 refuses (Ok told) = ⊥
 
-abbrev pub finds_nothing : Result Found Refusal → Type 0
+abbrev pub finds_nothing : Result Ending Refusal → Type 0
 finds_nothing (Err refused) = Unit {0}
 finds_nothing (Ok NoSteps) = Unit {0}
 finds_nothing (Ok Incomplete) = Unit {0}

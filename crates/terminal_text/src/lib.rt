@@ -10,7 +10,7 @@ ghost use Rattle.reader.specs.Refusals.{number_of};
 ghost use Rattle.renewed.specs.Meaning.{renewed_plan};
 ghost use Rattle.terminal_text.specs.Shown.{decode_text, shown, enough, PutShort, Within, shown_over, shown_length};
 
-use improving::Found;
+use improving::Ending;
 use reader::Refusal;
 
 // Puts a sheet of n rows, which are the first cells of five columns.
@@ -114,11 +114,11 @@ fn show_in(
     let answer = improving::improve(s, cells, tasks, machines);
     match answer {
         Err(refused) => show_refusal(refused, out),
-        Ok(Found::NoSteps) => show_sheet(s, 10, out),
-        Ok(Found::Incomplete) => show_sheet(s, 11, out),
-        Ok(Found::Contradictory) => show_sheet(s, 12, out),
-        Ok(Found::NothingBetter(_line)) => show_sheet(s, 13, out),
-        Ok(Found::Better(_line)) => show_renewed(s, tasks, machines, out),
+        Ok(Ending::NoSteps) => show_sheet(s, 10, out),
+        Ok(Ending::Incomplete) => show_sheet(s, 11, out),
+        Ok(Ending::Contradictory) => show_sheet(s, 12, out),
+        Ok(Ending::NothingBetter(_line)) => show_sheet(s, 13, out),
+        Ok(Ending::Better(_line)) => show_renewed(s, tasks, machines, out),
     }
 }
 
