@@ -56,10 +56,8 @@ fn release_list(bs: &[usize], counts: &mut [usize], stack: &mut [usize], top: us
     ensures { (state_of counts.new stack.new result ≡ free_all bs.now (state_of counts.old stack.old top)) × (result ≤ length stack.old) }
 {
     let mut over = top;
-    let mut j = 0;
-    while j < bs.len() {
-        over = lower(bs[j], counts, stack, over);
-        j += 1;
+    for &b in bs {
+        over = lower(b, counts, stack, over);
     }
     over
 }
@@ -108,11 +106,8 @@ pub fn stack_free(counts: &[usize], stack: &mut [usize]) -> usize
     ensures { (stack_of stack.new result ≡ stack_free counts.now (length counts.now) 0 []) × (result ≤ length counts.now) }
 {
     let mut top = 0;
-    let mut k = 0;
-    while k < counts.len() {
-        let a = k;
-        k += 1;
-        if counts[a] == 0 {
+    for (a, &count) in counts.iter().enumerate() {
+        if count == 0 {
             stack[top] = a;
             top += 1;
         }

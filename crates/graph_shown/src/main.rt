@@ -12,11 +12,8 @@ fn print_order<W: Write>(out: &mut W, order: &[usize], named: usize) -> io::Resu
     requires { named ≤ length order.now }
 {
     write!(out, "{named}")?;
-    let mut i = 0;
-    while i < named {
-        let activity = order[i];
+    for activity in &order[..named] {
         write!(out, " {activity}")?;
-        i += 1;
     }
     out.write_all(b"\n")
 }

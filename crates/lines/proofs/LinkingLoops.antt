@@ -36,14 +36,13 @@ module _ {v : ℕ} {c₀ c : List ℕ} {i : ℕ} (w : Filling v c₀ c i) where
       let e : i ≡ length c₀ = omega (arith, w.sized, w.within) in
       w.so_far ∙ rw (e, drop-length c₀) (append-nil (replicate (length c₀) v))
 
--- ---- `link_pairs`: the pairs from i on are left
+-- ---- `link_pairs`: the pairs whose second stands at i or later are left
 
 pub record Pairing (line b₀ a₀ b a : List ℕ) (i : ℕ) : Type 0 where
-  pub within : i ≤ length line
   pub sized_before : length b ≡ length b₀
   pub sized_after : length a ≡ length a₀
-  pub before : written (drop (i + 1) line) (drop i line) b ≡ written (rest line) line b₀
-  pub after : written (drop i line) (drop (i + 1) line) a ≡ written line (rest line) a₀
+  pub before : written (drop i line) (drop (i - 1) line) b ≡ written (rest line) line b₀
+  pub after : written (drop (i - 1) line) (drop i line) a ≡ written line (rest line) a₀
 
 rest-drop : (l : List ℕ) → drop 1 l ≡ rest l
 rest-drop [] = refl
@@ -54,10 +53,9 @@ unfolding written
 written_none [] c = refl
 written_none (k ∷ ks) c = refl
 
-pub pair_begin : (line b a : List ℕ) → Pairing line b a b a 0
+pub pair_begin : (line b a : List ℕ) → Pairing line b a b a 1
 pair_begin line b a =
     record {
-      within = omega arith;
       sized_before = refl;
       sized_after = refl;
       before = ap (λ (l : List ℕ). written l line b) (rest-drop line);
@@ -65,28 +63,35 @@ pair_begin line b a =
     }
 
 module _ {line b₀ a₀ b a : List ℕ} {i : ℕ} (w : Pairing line b₀ a₀ b a i) where
-  pub pair_again : i + 1 < length line → Pairing line b₀ a₀ (set b (get_or line (i + 1) 0) (get_or line i 0)) (set a (get_or line i 0) (get_or line (i + 1) 0)) (i + 1)
+  pub pair_again : 1 ≤ i → i < length line → Pairing line b₀ a₀ (set b (get_or line i 0) (get_or line (i - 1) 0)) (set a (get_or line (i - 1) 0) (get_or line i 0)) (i + 1)
   unfolding written
-  pair_again h =
-      let p = next line i (omega arith) in
-      let q = next line (i + 1) h in
+  pair_again h k =
+      let x = get_or line (i - 1) 0 in
+      let y = get_or line i 0 in
+      let e : i - 1 + 1 ≡ i = omega arith in
+      let back : i + 1 - 1 ≡ i = omega arith in
+      let p = next line (i - 1) (omega arith) ∙ ap (λ (j : ℕ). x ∷ drop j line) e in
+      let q = next line i k in
       record {
-        within = omega arith;
-        sized_before = length-set b (get_or line (i + 1) 0) (get_or line i 0) ∙ w.sized_before;
-        sized_after = length-set a (get_or line i 0) (get_or line (i + 1) 0) ∙ w.sized_after;
+        sized_before = length-set b y x ∙ w.sized_before;
+        sized_after = length-set a x y ∙ w.sized_after;
         before =
-            sym (ap (λ (l : List ℕ). written l (drop i line) b) q ∙ ap (λ (l : List ℕ). written (get_or line (i + 1) 0 ∷ drop (i + 1 + 1) line) l b) p)
+            ap (λ (j : ℕ). written (drop (i + 1) line) (drop j line) (set b y x)) back
+            ∙ sym (ap (λ (l : List ℕ). written l (drop (i - 1) line) b) q ∙ ap (λ (l : List ℕ). written (y ∷ drop (i + 1) line) l b) p)
             ∙ w.before;
         after =
-            sym (ap (λ (l : List ℕ). written l (drop (i + 1) line) a) p ∙ ap (λ (l : List ℕ). written (get_or line i 0 ∷ drop (i + 1) line) l a) q)
+            ap (λ (j : ℕ). written (drop j line) (drop (i + 1) line) (set a x y)) back
+            ∙ sym (ap (λ (l : List ℕ). written l (drop i line) a) p ∙ ap (λ (l : List ℕ). written (x ∷ drop i line) l a) q)
             ∙ w.after;
       }
 
-  pub pair_end : length line ≤ i + 1 → (b ≡ written (rest line) line b₀) × (a ≡ written line (rest line) a₀)
+  pub pair_end : length line ≤ i → (b ≡ written (rest line) line b₀) × (a ≡ written line (rest line) a₀)
   unfolding written
   pair_end h =
-      let e : drop (i + 1) line ≡ [] = drop_of_length-le line h in
-      (sym (ap (λ (l : List ℕ). written l (drop i line) b) e) ∙ w.before, sym (ap (λ (l : List ℕ). written (drop i line) l a) e ∙ written_none (drop i line) a) ∙ w.after)
+      let e : drop i line ≡ [] = drop_of_length-le line h in (
+        sym (ap (λ (l : List ℕ). written l (drop (i - 1) line) b) e) ∙ w.before,
+        sym (ap (λ (l : List ℕ). written (drop (i - 1) line) l a) e ∙ written_none (drop (i - 1) line) a) ∙ w.after,
+      )
 
 -- ---- `place_line`: the places from i on are left
 

@@ -1,16 +1,16 @@
--- Number 7's test says exactly what well-formed lines are, and how its loops go through a list. Assumes nothing.
+-- Number 7's test says exactly what well-formed lines are. Assumes nothing.
 use mathlib.Core.Path.{◌≡◌, refl, sym, ap, ◌∙◌}
 use mathlib.Core.Bool.{Bool, true, false, ◌&&◌}
 use mathlib.Core.List.{List, [], ◌∷◌}
 use mathlib.Core.Logic.{◌↔◌}
-use Prim.Native.Nat.{ℕ, zero, suc, ◌+◌, ◌-◌, ◌≤◌, ◌<◌}
-use native.Mathlib.Numerals.{add-one}
+use Prim.Native.Nat.{ℕ, zero, suc, ◌+◌, ◌-◌, ◌<◌}
 use native.Mathlib.Nat.{zero-add}
 use native.Mathlib.Omega.{arith}
 use lib.ListN.{length, get_or, drop}
-use lib.Seq.{drop-cons, drop-length, get_or-drop}
+use lib.Seq.{get_or-drop}
 use lib.Dec.{eqb, ltb}
-use borrow.Author.Tests.{ltb-true, eqb-true, lt-ltb, le-ltb, eq-eqb, ne_eqb}
+use borrow.Author.Tests.{ltb-true, eqb-true, lt-ltb, eq-eqb}
+use Rattle.std.specs.List.{list_all}
 use Rattle.graph.specs.Counting.{count_of, Below}
 use Rattle.graph.proofs.CountingLaws.{either, below_of}
 use Rattle.lines.specs.Lines.{Lines, standing, all, lengths, all_known, standings, all_short, all_zero, all_fit, well_formed, WellFormed}
@@ -29,6 +29,12 @@ both_true false t e = absurd (never e)
 pub both : (s t : Bool) → s ≡ true → t ≡ true → (s && t) ≡ true
 both s t p q = rw (p, q)
 
+-- the same as std's word for it
+pub all_listed : (test : ℕ → Bool) (l : List ℕ) → list_all test l ≡ all test l
+unfolding all
+all_listed test [] = refl
+all_listed test (x ∷ l) = ap (λ t. test x && t) (all_listed test l)
+
 module _ (test : ℕ → Bool) where
   pub all_at : (l : List ℕ) → all test l ≡ true → (i : ℕ) → i < length l → test (get_or l i 0) ≡ true
   unfolding all
@@ -40,42 +46,6 @@ module _ (test : ℕ → Bool) where
   unfolding all
   all_from [] h = refl
   all_from (x ∷ l) h = both (test x) (all test l) (h 0 (omega arith)) (all_from l (λ i k. h (suc i) (omega arith)))
-
--- ---- a loop that tests one after the other: so far each has passed, and the rest decides
-
-pub record Passing (test : ℕ → Bool) (l : List ℕ) (i : ℕ) : Type 0 where
-  pub within : i ≤ length l
-  pub rest : all test l ≡ all test (drop i l)
-
-pub pass_begin : (test : ℕ → Bool) (l : List ℕ) → Passing test l 0
-pass_begin test l = record { within = omega arith; rest = refl }
-
-module _ {test : ℕ → Bool} {l : List ℕ} {i : ℕ} (p : Passing test l i) where
-  pass_again : i < length l → test (get_or l i 0) ≡ true → Passing test l (i + 1)
-  unfolding all
-  pass_again h e = record { within = omega arith; rest = p.rest ∙ rw (add-one, drop-cons l i 0, e) }
-
-  pass_stop : i < length l → test (get_or l i 0) ≡ false → false ≡ all test l
-  unfolding all
-  pass_stop h e = sym (p.rest ∙ rw (drop-cons l i 0, e))
-
-  pub pass_end : length l ≤ i → true ≡ all test l
-  unfolding all
-  pass_end h = let e : i ≡ length l = omega (arith, p.within) in sym (p.rest ∙ rw (e, drop-length l))
-
--- .. whether each is below k, and whether each is k
-module _ {k : ℕ} {l : List ℕ} {i : ℕ} where
-  pub pass_below : Passing (λ x. ltb x k) l i → i < length l → get_or l i 0 < k → Passing (λ x. ltb x k) l (i + 1)
-  pass_below p h e = pass_again p h (lt-ltb (get_or l i 0) k e)
-
-  pub stop_above : Passing (λ x. ltb x k) l i → i < length l → k ≤ get_or l i 0 → false ≡ all (λ x. ltb x k) l
-  stop_above p h e = pass_stop p h (le-ltb (get_or l i 0) k e)
-
-  pub pass_equal : Passing (λ x. eqb x k) l i → i < length l → get_or l i 0 ≡ k → Passing (λ x. eqb x k) l (i + 1)
-  pass_equal p h e = pass_again p h (eq-eqb (get_or l i 0) k e)
-
-  pub stop_unequal : Passing (λ x. eqb x k) l i → i < length l → (get_or l i 0 ≡ k → ⊥) → false ≡ all (λ x. eqb x k) l
-  stop_unequal p h e = pass_stop p h (ne_eqb (get_or l i 0) k e)
 
 -- ---- the test and the statement
 

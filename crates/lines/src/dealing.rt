@@ -8,15 +8,12 @@ pub fn deal(activities: &[usize], machines: &[usize], cells: &mut [usize]) -> [u
     ensures { Dealt activities.now machines.now cells.new result }
 {
     let mut lens: [usize; 16] = [0; 16];
-    let mut i = 0;
-    while i < activities.len() {
-        let a = activities[i];
+    for &a in activities {
         let m = machines[a];
         let len = lens[m];
         let place = 128 * m + len;
         cells[place] = a;
         lens[m] = len + 1;
-        i += 1;
     }
     lens
 }

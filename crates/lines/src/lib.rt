@@ -16,56 +16,28 @@ pub use relinking::relink_line;
 fn all_short(lens: &[usize]) -> bool
     ensures { result ≡ all_short lens.now }
 {
-    let mut m = 0;
-    while m < lens.len() {
-        if 129 <= lens[m] {
-            return false;
-        }
-        m += 1;
-    }
-    true
+    lens.iter().all(|&len| len < 129)
 }
 
 // Whether none of these machines has a line.
 fn all_zero(lens: &[usize]) -> bool
     ensures { result ≡ all_zero lens.now }
 {
-    let mut m = 0;
-    while m < lens.len() {
-        if lens[m] != 0 {
-            return false;
-        }
-        m += 1;
-    }
-    true
+    lens.iter().all(|&len| len == 0)
 }
 
 // Whether each on the line is an activity.
 fn all_below(line: &[usize], n: usize) -> bool
     ensures { result ≡ all (λ a. ltb a n) line.now }
 {
-    let mut i = 0;
-    while i < line.len() {
-        if n <= line[i] {
-            return false;
-        }
-        i += 1;
-    }
-    true
+    line.iter().all(|&a| a < n)
 }
 
 // Whether each was counted once.
 fn all_one(counts: &[usize]) -> bool
     ensures { result ≡ all_one counts.now }
 {
-    let mut a = 0;
-    while a < counts.len() {
-        if counts[a] != 1 {
-            return false;
-        }
-        a += 1;
-    }
-    true
+    counts.iter().all(|&count| count == 1)
 }
 
 // Whether each line fits its stretch, and only the machines that there are have one.
@@ -84,16 +56,14 @@ fn count_lines(n: usize, cells: &[usize], lens: [usize; 16], seen: &mut [usize])
     requires { (n ≤ length seen.old) × (length cells.now ≡ 2048) × Fit lens × ((a : ℕ) → get_or seen.old a 0 ≡ 0) }
     ensures { CountedLines n (lines_in cells.now lens) seen.new result }
 {
-    let mut m = 0;
-    while m < 16 {
+    for (m, &len) in lens.iter().enumerate() {
         let at = 128 * m;
-        let end = at + lens[m];
+        let end = at + len;
         let line = &cells[at..end];
         if !all_below(line, n) {
             return false;
         }
         graph::tally_by(line, seen);
-        m += 1;
     }
     true
 }
@@ -113,7 +83,7 @@ pub fn well_formed(
     if !all_fit(lens, machines) {
         return false;
     }
-    graph::clear(seen);
+    seen.fill(0);
     if !count_lines(n, cells, lens, seen) {
         return false;
     }

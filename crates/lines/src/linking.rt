@@ -1,19 +1,8 @@
 // Who stands before and after whom, on which machine and where, looked up by the activity's number.
-ghost use Rattle.std.specs.Prelude.{◌≡◌, length, replicate};
+ghost use Rattle.std.specs.Prelude.{◌≡◌, length};
 ghost use Rattle.graph.specs.Counting.{Below};
 ghost use Rattle.lines.specs.Lines.{lines_in, rest, Fit, WellFormed};
 ghost use Rattle.lines.specs.Linking.{links_of, written, marked, numbered, line_linked, lines_linked, Roomy, AllBelow, LinesHeld};
-
-// Sets all to one number.
-fn fill(list: &mut [usize], v: usize)
-    ensures { list.new ≡ replicate (length list.old) v }
-{
-    let mut i = 0;
-    while i < list.len() {
-        list[i] = v;
-        i += 1;
-    }
-}
 
 // Writes for each on the line who stands right before it, and who right after it. The first has
 // none before it and the last none after it, and their cells are left as they are.
@@ -21,13 +10,11 @@ fn link_pairs(line: &[usize], before: &mut [usize], after: &mut [usize])
     requires { Below (length before.old) line.now × Below (length after.old) line.now }
     ensures { (before.new ≡ written (rest line.now) line.now before.old) × (after.new ≡ written line.now (rest line.now) after.old) }
 {
-    let mut i = 0;
-    while i + 1 < line.len() {
-        let p = line[i];
-        let a = line[i + 1];
+    for i in 1..line.len() {
+        let p = line[i - 1];
+        let a = line[i];
         before[a] = p;
         after[p] = a;
-        i += 1;
     }
 }
 
@@ -36,12 +23,9 @@ fn place_line(line: &[usize], machine: usize, machines: &mut [usize], places: &m
     requires { Below (length machines.old) line.now × Below (length places.old) line.now }
     ensures { (machines.new ≡ marked line.now machine machines.old) × (places.new ≡ numbered line.now 0 places.old) }
 {
-    let mut i = 0;
-    while i < line.len() {
-        let a = line[i];
+    for (i, &a) in line.iter().enumerate() {
         machines[a] = machine;
         places[a] = i;
-        i += 1;
     }
 }
 
@@ -74,12 +58,10 @@ fn link_each(
     requires { (length cells.now ≡ 2048) × Fit lens × AllBelow n (lines_in cells.now lens) × Roomy n (links_of before.old after.old machines.old places.old) }
     ensures { links_of before.new after.new machines.new places.new ≡ lines_linked 0 (lines_in cells.now lens) (links_of before.old after.old machines.old places.old) }
 {
-    let mut m = 0;
-    while m < 16 {
+    for (m, &len) in lens.iter().enumerate() {
         let at = 128 * m;
-        let end = at + lens[m];
+        let end = at + len;
         link_line(&cells[at..end], m, before, after, machines, places);
-        m += 1;
     }
 }
 
@@ -97,7 +79,7 @@ pub fn link_lines(
     requires { (length cells.now ≡ 2048) × WellFormed n 16 (lines_in cells.now lens) × Roomy n (links_of before.old after.old machines.old places.old) }
     ensures { LinesHeld n (lines_in cells.now lens) (links_of before.new after.new machines.new places.new) }
 {
-    fill(before, n);
-    fill(after, n);
+    before.fill(n);
+    after.fill(n);
     link_each(n, cells, lens, before, after, machines, places);
 }

@@ -25,15 +25,13 @@ pub fn relink_line(
     machines[first] = machine;
     places[first] = 0;
     let mut previous = first;
-    let mut i = 1;
-    while i < line.len() {
+    for i in 1..line.len() {
         let a = line[i];
         before[a] = previous;
         after[previous] = a;
         machines[a] = machine;
         places[a] = i;
         previous = a;
-        i += 1;
     }
     after[previous] = n;
 }

@@ -1,43 +1,25 @@
 // A sheet's rows, written into five lent buffers: activity, machine, start, end, setup.
 #![tactic(auto)]
 
-ghost use Rattle.std.specs.Prelude.{◌≡◌, ◌≤◌, length};
+ghost use Rattle.std.specs.Prelude.{◌≡◌, ◌≤◌, ◌++◌, length, get_or, drop, map};
 ghost use Rattle.graph.specs.Counting.{Below};
-ghost use Rattle.rows.specs.Rows.{gathered, over, columns_of, Written, Roomy};
+ghost use Rattle.rows.specs.Rows.{over, columns_of, Written, Roomy};
 
 // Copies a list over the first cells of a buffer.
 pub fn copy_over(list: &[usize], to: &mut [usize])
     requires { length list.now ≤ length to.old }
     ensures { to.new ≡ over list.now to.old }
 {
-    let mut i = 0;
-    while i < list.len() {
-        to[i] = list[i];
-        i += 1;
-    }
+    to[..list.len()].copy_from_slice(list);
 }
 
-// Writes the number of each activity of an order over the first cells of a buffer.
-pub fn gather(order: &[usize], values: &[usize], to: &mut [usize])
+// Writes what each activity of an order has over the first cells of a buffer.
+fn gather<T: Copy>(order: &[usize], values: &[T], to: &mut [T])
     requires { (length order.now ≤ length to.old) × Below (length values.now) order.now }
-    ensures { to.new ≡ over (gathered values.now order.now) to.old }
+    ensures { (d : T) → to.new ≡ map (λ a. get_or values.now a d) order.now ++ drop (length order.now) to.old }
 {
-    let mut i = 0;
-    while i < order.len() {
-        to[i] = values[order[i]];
-        i += 1;
-    }
-}
-
-// The same for times.
-pub fn gather_times(order: &[usize], values: &[u64], to: &mut [u64])
-    requires { (length order.now ≤ length to.old) × Below (length values.now) order.now }
-    ensures { to.new ≡ over (gathered values.now order.now) to.old }
-{
-    let mut i = 0;
-    while i < order.len() {
-        to[i] = values[order[i]];
-        i += 1;
+    for (i, &a) in order.iter().enumerate() {
+        to[i] = values[a];
     }
 }
 
@@ -60,7 +42,7 @@ pub fn write(
 {
     copy_over(order, activities);
     gather(order, on, machines);
-    gather_times(order, begun, starts);
-    gather_times(order, done, ends);
-    gather_times(order, prepared, setups);
+    gather(order, begun, starts);
+    gather(order, done, ends);
+    gather(order, prepared, setups);
 }

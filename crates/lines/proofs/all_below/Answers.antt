@@ -1,17 +1,11 @@
--- `lines::all_below` meets its contract. The loop's invariant: all so far are activities. Assumes nothing.
-use Prim.Native.Nat.{◌-◌}
-use native.Mathlib.Omega.{arith}
-use Rattle.lines.proofs.TestLaws.{pass_begin, pass_below, stop_above, pass_end}
+-- `lines::all_below` meets its contract: all are activities. Assumes nothing.
+use Rattle.std.proofs.Common.{◌∙◌, rules, tests}
+use Rattle.std.proofs.lemmas.Iterator.{YieldsList-from_slice}
+use Rattle.std.proofs.lemmas.Iterator.Search.{all_from_yields_List}
+use lib.Dec.{ltb}
+use Rattle.lines.proofs.TestLaws.{all_listed}
 use Rattle.lines.proofs.all_below.Goals as goal
 
-pub loop-i-init : goal.loop-i-init
-loop-i-init c = pass_begin _ _
-
-pub returns-then-n-line : goal.returns-then-n-line
-returns-then-n-line c = stop_above c.loop-i.invariant c.loop-i-test.true (omega arith)
-
-pub loop-i-preserved : goal.loop-i-preserved
-loop-i-preserved c = pass_below c.loop-i.invariant c.loop-i-test.true (omega arith)
-
 pub returns : goal.returns
-returns c = pass_end c.loop-i.invariant c.loop-i-test.false
+returns c = all_from_yields_List (λ k. ltb k c.args.n) _ _ _ c.all.ensures.ran (YieldsList-from_slice c.args.line.now cc) (λ x b q k. search (rules, tests))
+    ∙ all_listed (λ k. ltb k c.args.n) c.args.line.now

@@ -1,5 +1,4 @@
 -- `lines::relinking::relink_line` meets its contract. The loop's invariant: those that are left write from here what all but the first write. Assumes nothing.
-use Prim.Native.Nat.{◌-◌}
 use mathlib.Core.Path.{◌∙◌}
 use native.Mathlib.Omega.{arith}
 use lib.ListN.{get_or, length-set}
@@ -38,12 +37,6 @@ pub bounds-before-a : goal.bounds-before-a
 bounds-before-a c = let b = below_at _ c.args.line.now c.loop-i.i c.requires.0 c.loop-i-test.true in
     omega (arith, c.loop-i.invariant.sized_before, length-set c.args.before.now (get_or c.args.line.now 0 0) c.args.n)
 
-pub offset_bounds-after-previous : goal.offset_bounds-after-previous
-offset_bounds-after-previous c = omega (arith, c.loop-i.invariant.known)
-
-pub bounds-after-previous : goal.bounds-after-previous
-bounds-after-previous c = omega (arith, c.loop-i.invariant.known, c.loop-i.invariant.sized_after)
-
 pub offset_bounds-machines-a : goal.offset_bounds-machines-a
 offset_bounds-machines-a c = let b = below_at _ c.args.line.now c.loop-i.i c.requires.2 c.loop-i-test.true in omega arith
 
@@ -60,24 +53,6 @@ bounds-places-a c = let b = below_at _ c.args.line.now c.loop-i.i c.requires.3 c
 
 pub loop-i-preserved : goal.loop-i-preserved
 loop-i-preserved c = relink_again c.loop-i.invariant c.loop-i-test.true (below_at _ c.args.line.now c.loop-i.i c.requires.1 c.loop-i-test.true)
-
-pub offset_bounds-after-previous-2 : goal.offset_bounds-after-previous-2
-offset_bounds-after-previous-2 c = omega (arith, c.loop-i.invariant.known)
-
-pub bounds-after-previous-2 : goal.bounds-after-previous-2
-bounds-after-previous-2 c = omega (arith, c.loop-i.invariant.known, c.loop-i.invariant.sized_after)
-
-pub shape_of-before : goal.shape_of-before
-shape_of-before c = c.loop-i.invariant.sized_before ∙ length-set c.args.before.now (get_or c.args.line.now 0 0) c.args.n
-
-pub shape_of-after : goal.shape_of-after
-shape_of-after c = length-set c.loop-i.after c.loop-i.previous c.args.n ∙ c.loop-i.invariant.sized_after
-
-pub shape_of-machines : goal.shape_of-machines
-shape_of-machines c = c.loop-i.invariant.sized_machines ∙ length-set c.args.machines.now (get_or c.args.line.now 0 0) c.args.machine
-
-pub shape_of-places : goal.shape_of-places
-shape_of-places c = c.loop-i.invariant.sized_places ∙ length-set c.args.places.now (get_or c.args.line.now 0 0) 0
 
 pub returns : goal.returns
 returns c = relink_end c.loop-i.invariant c.loop-i-test.false ∙ relink_first _ _ _ _ _ _ _ c.if-line-eq0.false
