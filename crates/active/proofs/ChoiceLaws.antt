@@ -1,12 +1,15 @@
 -- The loops that look for the lead and for the least rank, and what holds of the one that is chosen.
 use Rattle.std.specs.Prelude.{None, Some}
+use Rattle.std.proofs.lemmas.Grind.{get_or_after_one}
+use Rattle.std.proofs.lemmas.List.{take_all}
+use Rattle.std.proofs.Common.{length-drop}
 use Prim.Native.Nat.{ℕ, suc, ◌+◌, ◌-◌, ◌≤◌, ◌<◌}
 use mathlib.Core.Path.{◌≡◌, refl, sym, ap, ap₂, ◌∙◌, subst}
 use mathlib.Core.Bool.{Bool, true, false, ◌&&◌, ◌||◌}
 use mathlib.Core.List.{List, [], ◌∷◌, ◌++◌}
 use native.Mathlib.Omega.{arith}
 use lib.Dec.{eqb, ltb, leb}
-use lib.ListN.{length, get_or, drop}
+use lib.ListN.{length, get_or, take, drop}
 use lib.Seq.{drop-length}
 use Rattle.graph.proofs.CountingLaws.{below_at, below_more}
 use Rattle.plan.specs.Problem.{Problem, Genes}
@@ -71,6 +74,19 @@ none_chosen ranks seat (a ∷ l) e = absurd (omega arith)
 pub one_chosen : (ranks : List ℕ) (seat : ℕ → Seat) (l : List ℕ) → 0 < length l → {lead x : Seat} → lead ≡ lead_of ranks seat l → x ≡ least_rank ranks seat lead l → Some x ≡ chosen_of ranks seat l
 one_chosen ranks seat [] h e f = absurd (omega arith)
 one_chosen ranks seat (a ∷ l) h e f = ap Some (f ∙ ap (λ (y : Seat). least_rank ranks seat y (a ∷ l)) e)
+
+-- ---- what follows the first of a list
+
+rest_is : (l : List ℕ) → take (length l - 1) (drop 1 l) ≡ drop 1 l
+rest_is l = take_all (length l - 1) (drop 1 l) (omega (arith, length-drop 1 l))
+
+pub rest_at : (l : List ℕ) (i : ℕ) → get_or (take (length l - 1) (drop 1 l)) i 0 ≡ get_or l (i + 1) 0
+rest_at l i =
+    let e : 1 + i ≡ i + 1 = omega arith in
+    ap (λ (m : List ℕ). get_or m i 0) (rest_is l) ∙ get_or_after_one l i 0 ∙ ap (λ (k : ℕ). get_or l k 0) e
+
+pub rest_length : (l : List ℕ) → length (take (length l - 1) (drop 1 l)) ≡ length l - 1
+rest_length l = ap length (rest_is l) ∙ length-drop 1 l
 
 -- ---- `lead_of`
 
@@ -137,9 +153,6 @@ module _ {ranks : List ℕ} {seat : ℕ → Seat} {lead : Seat} {n : ℕ} {l : L
             f ∙ ap₂ (λ (y z : Seat). preferred ranks lead y z) e (w.rest ∙ ap (λ (j : ℕ). least_rank ranks seat lead (drop j l)) q)
             ∙ sym (next_of (least_rank ranks seat lead) l (k - 1) (omega (arith, w.within)));
       }
-
-  pub pick_end : k ≡ 0 → best ≡ least_rank ranks seat lead l
-  pick_end e = w.rest ∙ ap (λ (j : ℕ). least_rank ranks seat lead (drop j l)) e
 
 -- ---- seats that are kept by task
 

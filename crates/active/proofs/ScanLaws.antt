@@ -386,8 +386,11 @@ module _ {p : Problem} {g : Genes} (ok : Accepted p g) {settled₀ offered₀ se
   skipped : ScannedTask p g t settled₁ kept₁ settled (set kept₁ t a) ends lines steps false → Scanning p g settled₀ offered₀ settled (set kept t a) ends lines steps offered found (t + 1)
   skipped s = rw (w.keeps, w.offers, w.finds) (scan_skip ok o ht s refl)
 
-  pub left-at_end : last_in kept₁ t ≤ a → Scanning p g settled₀ offered₀ settled (set kept t a) ends lines steps offered found (t + 1)
-  left-at_end l = skipped (task_over ok manned t ht o.keeping w.passing l)
+  pub left-at_end : last_in kept₁ t ≤ a → Scanning p g settled₀ offered₀ settled (set kept t (last_in kept₁ t)) ends lines steps offered found (t + 1)
+  left-at_end l =
+      let e : a ≡ last_in kept₁ t = omega (arith, l, w.passing.below) in
+      subst (λ (x : ℕ). Scanning p g settled₀ offered₀ settled (set kept t x) ends lines steps offered found (t + 1)) e
+      (skipped (task_over ok manned t ht o.keeping w.passing l))
 
   pub free_if_held : a < p.n → held_in (set kept t a) t ≡ a → any_unsettled settled (p.predecessors a) ≡ false
   free_if_held h q = held_free ok manned t ht o.keeping w.passing (ap (λ (k : List ℕ). held_in (set k t a) t) (sym w.keeps) ∙ q) h

@@ -68,10 +68,7 @@ fn lead_of(n: usize, ranks: &[usize], kept: &[usize], tasks: &[usize]) -> Seat
     ensures { result ≡ lead_of ranks.now (seat_in kept.now) tasks.now }
 {
     let mut best = seat_at(kept, tasks[0]);
-    let mut k = 1;
-    while k < tasks.len() {
-        let t = tasks[k];
-        k += 1;
+    for &t in &tasks[1..] {
         best = sooner(ranks, seat_at(kept, t), best);
     }
     best
@@ -83,11 +80,8 @@ fn least_rank(n: usize, ranks: &[usize], kept: &[usize], lead: Seat, tasks: &[us
     ensures { result ≡ least_rank ranks.now (seat_in kept.now) lead tasks.now }
 {
     let mut best = lead;
-    let mut k = tasks.len();
-    while 0 < k {
-        k -= 1;
-        let t = tasks[k];
-        best = preferred(ranks, lead, seat_at(kept, t), best);
+    for k in (0..tasks.len()).rev() {
+        best = preferred(ranks, lead, seat_at(kept, tasks[k]), best);
     }
     best
 }

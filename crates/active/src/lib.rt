@@ -8,4 +8,3 @@ mod seats;
 
 use board::Seat;
 pub use placing::place_active;
-

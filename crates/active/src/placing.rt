@@ -40,8 +40,7 @@ fn place_chosen(
 {
     let mut count = 0;
     loop {
-        let Some(seat) = choose(s, z, table, ranks, on, ends, lines, steps, settled, kept)
-        else {
+        let Some(seat) = choose(s, z, table, ranks, on, ends, lines, steps, settled, kept) else {
             return count;
         };
         let a = seat.activity;

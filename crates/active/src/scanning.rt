@@ -18,11 +18,8 @@ pub fn put_ranks(activities: &[usize], ranks: &mut [usize])
     requires { Below (length ranks.old) activities.now }
     ensures { ranks.new ≡ ranked_from 0 activities.now ranks.old }
 {
-    let mut i = 0;
-    while i < activities.len() {
-        let a = activities[i];
+    for (i, &a) in activities.iter().enumerate() {
         ranks[a] = i;
-        i += 1;
     }
 }
 
@@ -31,13 +28,10 @@ fn any_unsettled(list: &[usize], settled: &[usize]) -> bool
     requires { Below (length settled.now) list.now }
     ensures { result ≡ any_unsettled settled.now list.now }
 {
-    let mut i = 0;
-    while i < list.len() {
-        let b = list[i];
+    for &b in list {
         if settled[b] != 1 {
             return true;
         }
-        i += 1;
     }
     false
 }
@@ -93,16 +87,11 @@ pub fn scan(
     ensures { ScannedAll (problem_of (words s.now) z) (genes_of (words s.now) z) settled.old settled.new kept.new ends.now lines.now steps.now (take result offered.new) × (result ≤ 32) × (result ≡ length (take result offered.new)) }
 {
     let mut found = 0;
-    let mut t = 0;
-    'tasks: while t < z.tasks {
-        let task = t;
-        t += 1;
+    'tasks: for task in 0..z.tasks {
         let last = kept[LAST_ROW + task];
-        let mut a = kept[task];
-        while a < last {
+        for a in kept[task]..last {
             if !stops(on, settled, a) {
                 settled[a] = 1;
-                a += 1;
                 continue;
             }
             kept[task] = a;
@@ -114,7 +103,7 @@ pub fn scan(
             found += 1;
             continue 'tasks;
         }
-        kept[task] = a;
+        kept[task] = last;
     }
     found
 }

@@ -41,10 +41,8 @@ pub fn fill_on(s: &[u8], z: Layout, on: &mut [usize])
     requires { Placed z × Accepted (problem_of (words s.now) z) (genes_of (words s.now) z) × (length on.old ≡ 128) }
     ensures { Manned (genes_of (words s.now) z) z.activities on.new }
 {
-    let mut a = 0;
-    while a < z.activities {
+    for a in 0..z.activities {
         on[a] = machine_code(s, z, a);
-        a += 1;
     }
 }
 
@@ -54,14 +52,12 @@ pub fn begin(s: &[u8], z: Layout, kept: &mut [usize])
     ensures { Fresh (problem_of (words s.now) z) kept.new }
 {
     let mut first = 0;
-    let mut t = 0;
-    while t < z.tasks {
+    for t in 0..z.tasks {
         let next = first + plan::steps(s, z, t) as usize;
         kept[t] = first;
         kept[LAST_ROW + t] = next;
         kept[ACTIVITY_ROW + t] = z.activities;
         first = next;
-        t += 1;
     }
 }
 
@@ -142,10 +138,7 @@ pub fn forget(n: usize, tasks: usize, m: usize, task: usize, kept: &mut [usize])
     requires { (length kept.old ≡ 224) × (tasks ≤ 32) × (task < 32) }
     ensures { kept.new ≡ set (forgotten n m tasks kept.old) (activity_row + task) n }
 {
-    let mut t = 0;
-    while t < tasks {
-        let k = t;
-        t += 1;
+    for k in 0..tasks {
         if kept[MACHINE_ROW + k] != m {
             continue;
         }

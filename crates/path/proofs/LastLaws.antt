@@ -1,6 +1,9 @@
 -- One turn of the loop that looks for the greatest end: what is left, from the last so far, gives the same activity.
 use Rattle.std.specs.Prelude.{Some}
-use Prim.Native.Nat.{ℕ, ◌+◌, ◌≤◌, ◌<◌}
+use Rattle.std.proofs.Common.{length-drop}
+use Rattle.std.proofs.lemmas.Grind.{get_or_after_one}
+use Rattle.std.proofs.lemmas.List.{take_all}
+use Prim.Native.Nat.{ℕ, ◌+◌, ◌-◌, ◌≤◌, ◌<◌}
 use mathlib.Core.Path.{◌≡◌, refl, sym, ap, ◌∙◌}
 use mathlib.Core.List.{List, [], ◌∷◌}
 use mathlib.Core.Bool.{Bool, true, false, cond}
@@ -8,7 +11,7 @@ use native.Mathlib.Omega.{arith}
 use native.Mathlib.Numerals.{add-one}
 use borrow.Author.Tests.{le-leb, lt-leb}
 use lib.Dec.{leb}
-use lib.ListN.{length, get_or, drop}
+use lib.ListN.{length, get_or, take, drop}
 use lib.Seq.{drop-cons, drop-length}
 use Rattle.graph.specs.Counting.{Below}
 use Rattle.graph.proofs.CountingLaws.{below_at}
@@ -19,6 +22,17 @@ pub record Seeking (order ends : List ℕ) (last i : ℕ) : Type 0 where
   pub within : i ≤ length order
   pub known : last < length ends
   pub left : last_from ends last (drop i order) ≡ last_from ends (get_or order 0 0) (drop 1 order)
+
+rest_is : (l : List ℕ) → take (length l - 1) (drop 1 l) ≡ drop 1 l
+rest_is l = take_all (length l - 1) (drop 1 l) (omega (arith, length-drop 1 l))
+
+pub rest_at : (l : List ℕ) (i : ℕ) → get_or (take (length l - 1) (drop 1 l)) i 0 ≡ get_or l (i + 1) 0
+rest_at l i =
+    let e : 1 + i ≡ i + 1 = omega arith in
+    ap (λ (m : List ℕ). get_or m i 0) (rest_is l) ∙ get_or_after_one l i 0 ∙ ap (λ (k : ℕ). get_or l k 0) e
+
+pub rest_length : (l : List ℕ) → length (take (length l - 1) (drop 1 l)) ≡ length l - 1
+rest_length l = ap length (rest_is l) ∙ length-drop 1 l
 
 pub starts_with : (order ends : List ℕ) → 0 < length order → last_to_end order ends ≡ Some (last_from ends (get_or order 0 0) (drop 1 order))
 starts_with [] ends h = absurd (omega arith)

@@ -1,5 +1,5 @@
 // Tails: how long the work is that follows each activity, at least.
-ghost use Rattle.std.specs.Prelude.{◌≡◌, ◌++◌, ◌+◌, ◌-◌, ◌<◌, ◌≤◌, length, get_or, replicate};
+ghost use Rattle.std.specs.Prelude.{◌≡◌, ◌++◌, ◌+◌, ◌-◌, ◌<◌, ◌≤◌, length, get_or};
 ghost use Rattle.graph.specs.Counting.{Below};
 ghost use Rattle.graph.specs.Links.{linked, link_of};
 ghost use Rattle.graph.specs.Shop.{greatest};
@@ -9,18 +9,6 @@ ghost use Rattle.lines.specs.Lines.{Lines};
 ghost use Rattle.path.specs.Placing.{placed};
 ghost use Rattle.path.specs.Tails.{tails};
 ghost use Rattle.path.specs.Following.{Addable, Freed, Followed, Tailed};
-
-
-// Sets all to 0.
-fn clear(tail: &mut [u64])
-    ensures { tail.new ≡ replicate (length tail.old) 0 }
-{
-    let mut i = 0;
-    while i < tail.len() {
-        tail[i] = 0;
-        i += 1;
-    }
-}
 
 // An activity's span plus its tail.
 fn span_and_tail(starts: &[u64], ends: &[u64], tail: &[u64], x: usize) -> u64
@@ -36,30 +24,27 @@ pub fn after_all(list: &[usize], starts: &[u64], ends: &[u64], tail: &[u64], fir
     ensures { result ≡ greatest (λ x. get_or ends.now x 0 - get_or starts.now x 0 + get_or tail.now x 0) list.now first }
 {
     let mut longest = first;
-    let mut i = 0;
-    while i < list.len() {
-        let after = span_and_tail(starts, ends, tail, list[i]);
-        i += 1;
-        if longest < after {
-            longest = after;
-        }
+    for &x in list {
+        longest = longest.max(span_and_tail(starts, ends, tail, x));
     }
     longest
 }
 
 // The greater of a time and of the linked one's span plus tail.
-pub fn after_link(link: Option<usize>, starts: &[u64], ends: &[u64], tail: &[u64], first: u64) -> u64
+pub fn after_link(
+    link: Option<usize>,
+    starts: &[u64],
+    ends: &[u64],
+    tail: &[u64],
+    first: u64,
+) -> u64
     requires { Below (length tail.now) (linked link) × Addable (length tail.now) starts.now ends.now tail.now }
     ensures { result ≡ greatest (λ x. get_or ends.now x 0 - get_or starts.now x 0 + get_or tail.now x 0) (linked link) first }
 {
     let Some(x) = link else {
         return first;
     };
-    let after = span_and_tail(starts, ends, tail, x);
-    if first < after {
-        return after;
-    }
-    first
+    first.max(span_and_tail(starts, ends, tail, x))
 }
 
 // The tail of an activity, by the tails of its line successor, its task successor and those waiting for it.
@@ -97,10 +82,8 @@ pub fn tails(
     requires { Tailed table.now after.now tail.old (placed order.now starts.now ends.now) }
     ensures { (p : Problem) (lines : Lines) → Followed p lines table.now after.now (placed order.now starts.now ends.now) → length tail.old ≡ p.n → tail.new ≡ tails p lines (placed order.now starts.now ends.now) }
 {
-    clear(tail);
-    let mut i = order.len();
-    while 0 < i {
-        i -= 1;
+    tail.fill(0);
+    for i in (0..order.len()).rev() {
         let a = order[i];
         let longest = tail_of(table, after, starts, ends, tail, a);
         tail[a] = longest;

@@ -21,10 +21,7 @@ fn last_to_end(order: &[usize], ends: &[u64]) -> usize
     ensures { last_to_end order.now ends.now ≡ Some result }
 {
     let mut last = order[0];
-    let mut i = 1;
-    while i < order.len() {
-        let a = order[i];
-        i += 1;
+    for &a in &order[1..] {
         if ends[last] <= ends[a] {
             last = a;
         }
@@ -51,20 +48,24 @@ fn first_meeting(named: &[usize], ends: &[u64], start: u64) -> Option<usize>
     requires { Below (length ends.now) named.now }
     ensures { result ≡ first_meeting (λ b. eqb (get_or ends.now b 0) start) named.now }
 {
-    let mut i = 0;
-    while i < named.len() {
-        let b = named[i];
+    for &b in named {
         if ends[b] == start {
             return Some(b);
         }
-        i += 1;
     }
     None
 }
 
 // Where the path goes back to from an activity that its line does not hold back: the step before it, if a way after its end is this start,
 // else the first listed predecessor that ends there.
-fn back_by_plan(table: &[usize], task: Option<usize>, ends: &[u64], a: usize, way: u64, start: u64) -> Option<usize>
+fn back_by_plan(
+    table: &[usize],
+    task: Option<usize>,
+    ends: &[u64],
+    a: usize,
+    way: u64,
+    start: u64,
+) -> Option<usize>
     requires { Backed table.now ends.now a × Below (length ends.now) (linked task) × ((b : ℕ) → get_or ends.now b 0 < 2 ^ 62) × (way < 2 ^ 32) }
     ensures { (p : Problem) → Tabled p table.now → a < p.n → p.n ≤ 128 → result ≡ or_else (meeting (λ b. eqb (get_or ends.now b 0 + way) start) task) (first_meeting (λ b. eqb (get_or ends.now b 0) start) (p.predecessors a)) }
 {

@@ -5,32 +5,14 @@ use native.Mathlib.Omega.{arith}
 use Rattle.graph.proofs.CountingLaws.{below_at}
 use Rattle.board.specs.declared.Seat.{Seat}
 use Rattle.active.specs.Kept.{seat_in}
-use Rattle.active.proofs.ChoiceLaws.{pick_begin, pick_again, pick_end}
+use Rattle.active.proofs.ChoiceLaws.{pick_begin, pick_again}
 use Rattle.active.proofs.choosing.least_rank.Goals as goal
 
 pub loop-k-init : goal.loop-k-init
 loop-k-init c = pick_begin c.args.ranks.now (seat_in c.args.kept.now) c.args.lead c.args.n c.args.tasks.now c.requires.1
 
-pub overflow_sub-k : goal.overflow_sub-k
-overflow_sub-k c = (omega (arith, c.loop-k-test.true, c.loop-k.invariant.within))
-
-pub offset_bounds-tasks-k : goal.offset_bounds-tasks-k
-offset_bounds-tasks-k c = (omega (arith, c.loop-k-test.true, c.loop-k.invariant.within))
-
-pub bounds-tasks-k : goal.bounds-tasks-k
-bounds-tasks-k c = (omega (arith, c.loop-k-test.true, c.loop-k.invariant.within))
-
 pub seat_at-requires : goal.seat_at-requires
 seat_at-requires c = (c.requires.0.sized, below_at 32 c.args.tasks.now (c.loop-k.k - 1) c.requires.0.there (omega (arith, c.loop-k-test.true, c.loop-k.invariant.within)))
 
-pub preferred-best-requires : goal.preferred-best-requires
-preferred-best-requires c = (omega (arith, ap (λ (y : Seat). y.activity) c.seat_at.ensures, c.requires.0.known (c.loop-k.k - 1) (omega (arith, c.loop-k-test.true, c.loop-k.invariant.within)), c.requires.0.few, c.requires.0.ranked), omega (arith, c.loop-k.invariant.known, c.requires.0.few, c.requires.0.ranked))
-
-pub loop-k-smaller : goal.loop-k-smaller
-loop-k-smaller c = (omega (arith, c.loop-k-test.true, c.loop-k.invariant.within))
-
 pub loop-k-preserved : goal.loop-k-preserved
 loop-k-preserved c = pick_again c.loop-k.invariant c.loop-k-test.true c.seat_at.ensures (omega (arith, ap (λ (y : Seat). y.activity) c.seat_at.ensures, c.requires.0.known (c.loop-k.k - 1) (omega (arith, c.loop-k-test.true, c.loop-k.invariant.within)))) c.preferred-best.ensures
-
-pub returns : goal.returns
-returns c = pick_end c.loop-k.invariant (omega (arith, c.loop-k-test.false))

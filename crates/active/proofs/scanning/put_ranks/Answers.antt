@@ -1,14 +1,9 @@
 -- `active::scanning::put_ranks` meets its contract. The loop's invariant: putting the rest upon the ranks so far gives what putting all does.
-use Prim.Native.Nat.{◌-◌}
-use mathlib.Core.Path.{refl}
 use native.Mathlib.Omega.{arith}
 use lib.ListN.{length}
 use Rattle.graph.proofs.CountingLaws.{below_at}
 use Rattle.active.proofs.RankLaws.{rank_again, rank_end}
 use Rattle.active.proofs.scanning.put_ranks.Goals as goal
-
-pub loop-i-init : goal.loop-i-init
-loop-i-init c = record { within = omega arith; sized = refl; rest = refl }
 
 pub offset_bounds-ranks-a : goal.offset_bounds-ranks-a
 offset_bounds-ranks-a c = let h = below_at (length c.args.ranks.now) c.args.activities.now c.loop-i.i c.requires c.loop-i-test.true in omega (arith, h, c.loop-i.invariant.sized)
@@ -18,9 +13,6 @@ bounds-ranks-a c = let h = below_at (length c.args.ranks.now) c.args.activities.
 
 pub loop-i-preserved : goal.loop-i-preserved
 loop-i-preserved c = rank_again c.loop-i.invariant c.loop-i-test.true
-
-pub shape_of-ranks : goal.shape_of-ranks
-shape_of-ranks c = c.loop-i.invariant.sized
 
 pub returns : goal.returns
 returns c = rank_end c.loop-i.invariant c.loop-i-test.false

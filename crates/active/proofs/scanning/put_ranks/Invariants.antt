@@ -1,11 +1,6 @@
 -- `active::scanning::put_ranks` meets its contract. The loop's invariant: putting the rest upon the ranks so far gives what putting all does.
-use Prim.Native.Nat.{◌-◌}
-use lib.ListN.{length}
 use Rattle.active.proofs.RankLaws.{Ranking}
 use Rattle.active.proofs.scanning.put_ranks.Given as goal
 
 abbrev pub invariant-loop-i : goal.invariant-loop-i
 invariant-loop-i l = Ranking l.activities l.initial.ranks l.ranks l.i
-
-abbrev pub decreases-loop-i : goal.decreases-loop-i
-decreases-loop-i l = length l.activities - l.i

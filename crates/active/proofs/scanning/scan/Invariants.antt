@@ -1,5 +1,4 @@
 -- `active::scanning::scan` meets its contract. Both loops' invariants: what is left to scan gives, upon what was scanned, what the whole does.
-use Prim.Native.Nat.{◌-◌}
 use Rattle.words.specs.Words.{words}
 use Rattle.plan.specs.Input.{problem_of, genes_of}
 use Rattle.active.proofs.ScanLaws.{Stepping, Scanning}
@@ -8,11 +7,5 @@ use Rattle.active.proofs.scanning.scan.Given as goal
 abbrev pub invariant-loop-a : goal.invariant-loop-a
 invariant-loop-a l = Stepping l.on l.initial.settled l.initial.kept l.initial.offered l.initial.found l.settled l.kept l.offered l.found l.initial.a l.last l.a
 
-abbrev pub decreases-loop-a : goal.decreases-loop-a
-decreases-loop-a l = l.last - l.a
-
 abbrev pub invariant-tasks : goal.invariant-tasks
-invariant-tasks l = Scanning (problem_of (words l.s) l.z) (genes_of (words l.s) l.z) l.initial.settled l.initial.offered l.settled l.kept l.ends l.lines l.steps l.offered l.found l.t
-
-abbrev pub decreases-tasks : goal.decreases-tasks
-decreases-tasks l = l.z.tasks - l.t
+invariant-tasks l = Scanning (problem_of (words l.s) l.z) (genes_of (words l.s) l.z) l.initial.settled l.initial.offered l.settled l.kept l.ends l.lines l.steps l.offered l.found l.task

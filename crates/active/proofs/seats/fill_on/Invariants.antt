@@ -1,5 +1,5 @@
 -- `active::seats::fill_on` meets its contract. The loop's invariant: the cells passed are filled.
-use Prim.Native.Nat.{◌≤◌, ◌-◌}
+use Prim.Native.Nat.{◌≤◌}
 use mathlib.Core.Path.{◌≡◌}
 use lib.ListN.{length}
 use Rattle.words.specs.Words.{words}
@@ -10,6 +10,3 @@ use Rattle.active.proofs.seats.fill_on.Given as goal
 
 abbrev pub invariant-loop-a : goal.invariant-loop-a
 invariant-loop-a l = (l.a ≤ l.z.activities) × (length l.on ≡ 128) × Filled l.a (λ i. machine_code ((genes_of (words l.s) l.z).assigned i)) l.on
-
-abbrev pub decreases-loop-a : goal.decreases-loop-a
-decreases-loop-a l = l.z.activities - l.a

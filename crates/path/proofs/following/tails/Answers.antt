@@ -1,28 +1,24 @@
 -- `path::following::tails` meets its contract. The loop's invariant, for whatever problem and lines are followed: setting what is left
 -- gives all tails.
-use mathlib.Core.Path.{refl, sym, ap, ◌∙◌}
+use mathlib.Core.Path.{refl, sym, ◌∙◌}
 use native.Mathlib.Omega.{arith}
-use lib.ListN.{length, length-set, length-replicate}
+use lib.ListN.{length, length-set}
 use Rattle.path.proofs.SettingLaws.{begin, set_all, addable, known, freed, again}
 use Rattle.path.proofs.following.tails.Goals as goal
 
 pub loop-i-init : goal.loop-i-init
-loop-i-init c = let m = length c.args.tail.now in
-    (omega arith, refl, λ p lines w k. begin w m c.clear.ensures (sym (ap length c.clear.ensures ∙ length-replicate m 0) ∙ k))
+loop-i-init c = (omega arith, refl, λ p lines w k. begin w (length c.args.tail.now) (c.fill.ensures.after (λ y e. e)) (sym c.fill.ensures.len ∙ k))
 
 pub tail_of-longest-requires : goal.tail_of-longest-requires
-tail_of-longest-requires c = let m = length c.args.tail.now in
-    let k = c.loop-i.invariant.2 c.requires.problem c.requires.lines c.requires.followed (ap length c.clear.ensures ∙ length-replicate m 0 ∙ c.requires.sized) in
+tail_of-longest-requires c = let k = c.loop-i.invariant.2 c.requires.problem c.requires.lines c.requires.followed (c.fill.ensures.len ∙ c.requires.sized) in
     (freed c.requires.followed k c.loop-i-test.true, addable c.requires.followed k)
 
 pub offset_bounds-tail-a : goal.offset_bounds-tail-a
-offset_bounds-tail-a c = let m = length c.args.tail.now in
-    let k = c.loop-i.invariant.2 c.requires.problem c.requires.lines c.requires.followed (ap length c.clear.ensures ∙ length-replicate m 0 ∙ c.requires.sized) in
+offset_bounds-tail-a c = let k = c.loop-i.invariant.2 c.requires.problem c.requires.lines c.requires.followed (c.fill.ensures.len ∙ c.requires.sized) in
     omega (arith, known c.requires.followed k c.loop-i-test.true, c.requires.followed.few)
 
 pub bounds-tail-a : goal.bounds-tail-a
-bounds-tail-a c = let m = length c.args.tail.now in
-    let k = c.loop-i.invariant.2 c.requires.problem c.requires.lines c.requires.followed (ap length c.clear.ensures ∙ length-replicate m 0 ∙ c.requires.sized) in
+bounds-tail-a c = let k = c.loop-i.invariant.2 c.requires.problem c.requires.lines c.requires.followed (c.fill.ensures.len ∙ c.requires.sized) in
     omega (arith, known c.requires.followed k c.loop-i-test.true, k.sized)
 
 pub loop-i-preserved : goal.loop-i-preserved
@@ -34,9 +30,6 @@ loop-i-preserved c = (
       again w held c.loop-i-test.true (c.tail_of-longest.ensures p w.tabled (known w held c.loop-i-test.true) w.few w.linked),
 )
 
-pub shape_of-tail : goal.shape_of-tail
-shape_of-tail c = c.loop-i.invariant.1 ∙ ap length c.clear.ensures ∙ length-replicate (length c.args.tail.now) 0
-
 pub returns : goal.returns
 returns c = λ p lines w k.
-    set_all w (c.loop-i.invariant.2 p lines w (ap length c.clear.ensures ∙ length-replicate (length c.args.tail.now) 0 ∙ k)) c.loop-i-test.false
+    set_all w (c.loop-i.invariant.2 p lines w (c.fill.ensures.len ∙ k)) c.loop-i-test.false

@@ -14,6 +14,3 @@ abbrev pub invariant-loop-i : goal.invariant-loop-i
 invariant-loop-i l = (l.i ≤ length l.order)
     × (length l.tail ≡ length l.initial.tail)
     × ((p : Problem) (lines : Lines) → Followed p lines l.table l.after (placed l.order l.starts l.ends) → length l.initial.tail ≡ p.n → Setting p lines (placed l.order l.starts l.ends) l.tail l.i)
-
-abbrev pub decreases-loop-i : goal.decreases-loop-i
-decreases-loop-i l = l.i
