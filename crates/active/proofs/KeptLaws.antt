@@ -366,7 +366,7 @@ pub record Beginning (p : Problem) (kept : List ℕ) (first t : ℕ) : Type 0 wh
   pub here : first ≡ p.first t
   pub next : (u : ℕ) → u < t → next_in kept u ≡ p.first u
   pub last : (u : ℕ) → u < t → last_in kept u ≡ p.first u + p.steps u
-  pub None : (u : ℕ) → u < t → held_in kept u ≡ p.n
+  pub none : (u : ℕ) → u < t → held_in kept u ≡ p.n
 
 pub begin_none : {p : Problem} {g : Genes} → Accepted p g → {kept : List ℕ} → length kept ≡ 224 → Beginning p kept 0 0
 begin_none {p} ok e =
@@ -376,7 +376,7 @@ begin_none {p} ok e =
       here = sym ok.starting;
       next = λ u h. absurd (omega arith);
       last = λ u h. absurd (omega arith);
-      None = λ u h. absurd (omega arith);
+      none = λ u h. absurd (omega arith);
     }
 
 module _ {p : Problem} {g : Genes} (ok : Accepted p g) {kept : List ℕ} {first t : ℕ} (w : Beginning p kept first t) where
@@ -400,7 +400,7 @@ module _ {p : Problem} {g : Genes} (ok : Accepted p g) {kept : List ℕ} {first 
         last = λ u l.
             either u t (λ q. rw q (omega (arith, b, e, w.here)))
             (λ ne. other (32 + u) (λ q. omega (arith, q, l, low)) (λ q. ne (omega arith)) (λ q. omega (arith, q, l, low)) ∙ w.last u (omega arith));
-        None = λ u l.
+        none = λ u l.
             either u t (λ q. rw q c)
             (λ ne. other (64 + u) (λ q. ne (omega arith)) (λ q. omega (arith, q, l, low)) (λ q. omega (arith, q, l, low)) ∙ w.none u (omega arith));
       }
@@ -415,5 +415,5 @@ module _ {p : Problem} {g : Genes} (ok : Accepted p g) {kept : List ℕ} {first 
         sized = w.sized;
         next = λ u l. w.next u (omega arith);
         last = λ u l. w.last u (omega arith);
-        None = λ u l. w.none u (omega arith);
+        none = λ u l. w.none u (omega arith);
       }

@@ -8,6 +8,7 @@ use Rattle.plan.specs.Problem.{Problem, Genes}
 use Rattle.plan.specs.Accepted.{Accepted}
 use Rattle.genes.specs.Indexed.{indexed}
 use Rattle.board.specs.Board.{Board, empty_board, sit}
+use Rattle.board.specs.declared.Seat.{Seat}
 use Rattle.board.specs.Sound.{Sound}
 use Rattle.board.proofs.BoardLaws.{empty_sound, ends_within}
 use Rattle.active.specs.Active.{ranks_of, scanned, choice_on, place_from, place_active}

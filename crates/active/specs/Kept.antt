@@ -73,7 +73,7 @@ abbrev pub keep_seat : Problem → Genes → (ends lines steps kept : List ℕ) 
 keep_seat p g ends lines steps kept t a = cond (eqb (held_in kept t) a) kept (with_seat kept t (seat_now p g ends lines steps a))
 
 -- the seats on a machine forgotten, of the first k tasks
-unfoldable pub forgotten : (None machine : ℕ) → ℕ → (kept : List ℕ) → List ℕ
+unfoldable pub forgotten : (none machine : ℕ) → ℕ → (kept : List ℕ) → List ℕ
 forgotten n m zero kept = kept
 forgotten n m (suc k) kept = cond (eqb (get_or kept (machine_row + k) 0) m) (set (forgotten n m k kept) (activity_row + k) n) (forgotten n m k kept)
 
@@ -113,7 +113,7 @@ pub record Fresh (p : Problem) (kept : List ℕ) : Type 0 where
   pub sized : length kept ≡ 224
   pub next : (t : ℕ) → t < p.tasks → next_in kept t ≡ p.first t
   pub last : (t : ℕ) → t < p.tasks → last_in kept t ≡ p.first t + p.steps t
-  pub None : (t : ℕ) → t < p.tasks → held_in kept t ≡ p.n
+  pub none : (t : ℕ) → t < p.tasks → held_in kept t ≡ p.n
 
 -- ---- the scan
 
@@ -132,4 +132,4 @@ pub record Offered (n : ℕ) (ranks kept tasks : List ℕ) : Type 0 where
   pub known : (k : ℕ) → k < length tasks → held_in kept (get_or tasks k 0) < n
   pub ranked : length ranks ≡ 128
   pub few : n ≤ 128
-  pub Some : 0 < length tasks
+  pub some : 0 < length tasks

@@ -69,7 +69,7 @@ module _ (p : Problem) (g : Genes) (ok : Accepted p g) (lines : Lines) (w : Well
               machines_few = ok.machines.1;
               transports = transports;
             };
-            Some = ok.activities.0;
+            some = ok.activities.0;
             ordered = whole;
             started = e.started;
             ended = e.ended;
