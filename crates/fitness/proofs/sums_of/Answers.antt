@@ -1,6 +1,6 @@
 -- `fitness::sums_of` meets its contract. The loop's invariant: of the tasks passed, `makespan` is the latest completion and `late` the sum of the
 -- tardinesses, and `first` is the next task's first activity.
-use Prim.Native.Nat.{◌+◌, ◌-◌, ◌≤◌, ◌^◌}
+use Prim.Native.Nat.{◌+◌, ◌≤◌, ◌^◌}
 use mathlib.Core.Path.{◌≡◌, refl, sym, ap, ◌∙◌}
 use native.Mathlib.Omega.{arith}
 use lib.ListN.{get_or}
@@ -53,7 +53,7 @@ loop-t-preserved c = let done-is : c.completion-done.result ≡ completion_of (p
     c.completion-done.result c.tardiness-late.result c.tardiness-late.ensures c.deadline-due.ensures done-is in (
       omega (arith, c.loop-t-test.true),
       omega (arith, c.requires.placed.1.next_first c.loop-t.t, c.loop-t.invariant.1, c.steps-steps.ensures),
-      latest_next _ c.loop-t.invariant.2 done-is c.later-makespan.ensures,
+      latest_next _ c.loop-t.invariant.2 done-is c.max-makespan.ensures,
       sum_next _ c.loop-t.invariant.3 late_is,
     )
 

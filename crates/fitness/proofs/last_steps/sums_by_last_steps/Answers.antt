@@ -102,7 +102,7 @@ loop-t-preserved c = let steps-are : c.row-of.result.steps ≡ (problem_of (word
     ∙ ap (λ (x : ℕ). tardiness_of x ((problem_of (words c.args.s.now) c.args.z).deadline c.loop-t.t)) done-is in (
       omega (arith, c.loop-t-test.true),
       omega (arith, c.requires.placed.1.next_first c.loop-t.t, c.loop-t.invariant.1, steps-are),
-      latest_next _ c.loop-t.invariant.2 done-is c.later-makespan.ensures,
+      latest_next _ c.loop-t.invariant.2 done-is c.max-makespan.ensures,
       sum_next _ c.loop-t.invariant.3 late_is,
     )
 
