@@ -1,5 +1,5 @@
 -- Laws of an accepted plan's tasks: their activities are among all, how late one can be, and how great both sums.
-use Rattle.std.specs.Prelude.{Option, Some, None}
+use Rattle.std.specs.Prelude.{Option, Some}
 use Prim.Native.Nat.{ℕ, zero, suc, ◌+◌, ◌*◌, ◌-◌, ◌^◌, ◌≤◌, ◌<◌}
 use mathlib.Core.Path.{◌≡◌, refl, ap, ◌∙◌}
 use mathlib.Core.Bool.{Bool, true, false}
@@ -43,10 +43,6 @@ module _ {p : Problem} {g : Genes} (plan : Accepted p g) where
 
 -- ---- a completion and a tardiness, worked out from what was looked up
 
-same_deadline : (d : Option ℤ) → (d) ≡ d
-same_deadline None = refl
-same_deadline (Some d) = refl
-
 module _ (p : Problem) (ends : ℕ → ℕ) (t : ℕ) where
   pub completion_is : (first steps done : ℕ) → done ≡ latest ends first steps → first ≡ p.first t → steps ≡ p.steps t → done ≡ completion_of p ends t
   completion_is first steps done d f s = cc
@@ -55,7 +51,7 @@ module _ (p : Problem) (ends : ℕ → ℕ) (t : ℕ) where
       → r ≡ lateness p ends t
   lateness_is done r {due} e d f =
       e ∙ ap (λ (x : ℕ). tardiness_of x (due)) f
-      ∙ ap (tardiness_of (completion_of p ends t)) (ap d ∙ same_deadline (p.deadline t))
+      ∙ ap (tardiness_of (completion_of p ends t)) d
 
 pub sums_are : (p : Problem) (ends : ℕ → ℕ) {makespan late : ℕ} → makespan ≡ makespan_of p ends → late ≡ late_of p ends
     → ◌≡◌ {A = Sums} (record { makespan = makespan; late = late }) (sums_of p ends)

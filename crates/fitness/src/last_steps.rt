@@ -68,7 +68,7 @@ fn sums_by_last_steps(s: &[u8], z: Layout, ends: &[u64]) -> Sums
         let steps = of.steps as usize;
         let last = first + steps - 1;
         let done = ends[last];
-        makespan = bounds::later(makespan, done);
+        makespan = makespan.max(done);
         late += late_in(of, done);
         first += steps;
     }

@@ -36,11 +36,11 @@ pub fn completion(first: usize, steps: usize, ends: &[u64]) -> u64
     requires { first + steps ≤ length ends.now }
     ensures { result ≡ latest (λ a. get_or ends.now a 0) first steps }
 {
-    let mut end: u64 = 0;
-    for i in 0..steps {
-        end = bounds::later(end, ends[first + i]);
+    let mut latest: u64 = 0;
+    for &end in &ends[first..first + steps] {
+        latest = latest.max(end);
     }
-    end
+    latest
 }
 
 // Activities are numbered task by task, so each task's first one follows from the steps of those before it.
@@ -55,7 +55,7 @@ pub fn sums_of(s: &[u8], z: Layout, ends: &[u64]) -> Sums
     for t in 0..z.tasks {
         let steps = plan::steps(s, z, t) as usize;
         let done = completion(first, steps, ends);
-        makespan = bounds::later(makespan, done);
+        makespan = makespan.max(done);
         let due = plan::deadline(s, z, t);
         late += bounds::tardiness(done, due);
         first += steps;

@@ -18,11 +18,9 @@ fn fill_firsts(s: &[u8], z: Layout, firsts: &mut [usize])
     ensures { firsts.new ≡ filled_to (problem_of (words s.now) z).first z.tasks firsts.old }
 {
     let mut first: usize = 0;
-    let mut t: usize = 0;
-    while t < z.tasks {
+    for t in 0..z.tasks {
         firsts[t] = first;
         first += plan::steps(s, z, t) as usize;
-        t += 1;
     }
 }
 
@@ -50,15 +48,12 @@ pub fn indexed(s: &[u8], z: Layout, activities: &mut [usize]) -> usize
     let mut named: [usize; 32] = [0; 32];
     let namings = plan::namings(s, z);
     let mut count: usize = 0;
-    let mut k: usize = 0;
-    while k < namings {
-        let at = k;
-        k += 1;
-        let Some(t) = task_named(s, z, at) else {
+    for k in 0..namings {
+        let Some(t) = task_named(s, z, k) else {
             continue;
         };
         let nth = named[t];
-        named[t] = nth + 1;
+        named[t] += 1;
         let steps = plan::steps(s, z, t) as usize;
         if nth < steps {
             activities[count] = firsts[t] + nth;
@@ -75,16 +70,13 @@ pub fn fill_machines(s: &[u8], z: Layout, machines: &mut [usize]) -> bool
     ensures machines_after { machines.new ≡ filled_to (assigned_to (genes_of (words s.now) z)) z.activities machines.old }
 {
     let mut all = true;
-    let mut a: usize = 0;
-    while a < z.activities {
-        let i = a;
-        a += 1;
-        let Some(m) = plan::assigned(s, z, i) else {
-            machines[i] = 0;
+    for a in 0..z.activities {
+        let Some(m) = plan::assigned(s, z, a) else {
+            machines[a] = 0;
             all = false;
             continue;
         };
-        machines[i] = m;
+        machines[a] = m;
     }
     all
 }

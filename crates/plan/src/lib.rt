@@ -157,7 +157,7 @@ pub fn later_release(s: &[u8], z: Layout, t: usize, a: usize) -> u32
 {
     let task = words::clamped(cell_at(s, z.at.tasks, 5, t, 1));
     let own = words::clamped(cell_at(s, z.at.activities, 1, a, 0));
-    if task < own { own } else { task }
+    task.max(own)
 }
 
 // The ways from one machine to each, zeros after the last.
@@ -166,11 +166,8 @@ fn transport_row(s: &[u8], z: Layout, from: usize) -> [u32; 16]
     ensures { result ≡ row_to ((problem_of (words s.now) z).transport from) z.machines }
 {
     let mut row: [u32; 16] = [0; 16];
-    let mut to: usize = 0;
-    while to < z.machines {
-        let way = transport(s, z, from, to);
-        row[to] = way;
-        to += 1;
+    for to in 0..z.machines {
+        row[to] = transport(s, z, from, to);
     }
     row
 }
@@ -181,11 +178,8 @@ pub fn transports(s: &[u8], z: Layout) -> [[u32; 16]; 16]
     ensures { result ≡ transports_of (problem_of (words s.now) z) }
 {
     let mut rows: [[u32; 16]; 16] = [[0; 16]; 16];
-    let mut from: usize = 0;
-    while from < z.machines {
-        let row = transport_row(s, z, from);
-        rows[from] = row;
-        from += 1;
+    for from in 0..z.machines {
+        rows[from] = transport_row(s, z, from);
     }
     rows
 }

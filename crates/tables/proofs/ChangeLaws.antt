@@ -9,7 +9,7 @@ use lib.ListN.{length, get_or, set}
 use lib.Seq.{get_or-set_same, get_or-set_other}
 use lib.Dec.{eqb}
 use borrow.Author.Tests.{eqb-true, eqb-false}
-use Rattle.plan.specs.Input.{change_from, cell, count}
+use Rattle.plan.specs.Input.{change_from, count}
 use Rattle.plan.specs.Problem.{Problem}
 use Rattle.plan.specs.declared.Layout.{Layout}
 use Rattle.plan.specs.Found.{Placed}
@@ -83,12 +83,6 @@ coded_turn ws all e at {list} {after} k pos most long asks q =
     subst (λ (l : List ℕ). Coded ws (all - (e - 1)) (at + 1 + 4 * (e - 1)) l) (sym q)
     (subst (λ (n : ℕ). Coded ws n (at + 1 + 4 * (e - 1)) (change_put ws (at + 1 + 4 * (e - 1)) list)) more
     (coded_more h long asks.0 asks.1 asks.2))
-
-pub coded_end : (ws : List ℕ) (all e at n : ℕ) {list : List ℕ} → e ≡ 0 → all ≡ n → Coded ws (all - e) (at + 1 + 4 * e) list → Coded ws n (at + 1) list
-coded_end ws all e at n {list} z a k =
-    let from : at + 1 + 4 * e ≡ at + 1 = omega arith in
-    let whole : all - e ≡ n = omega arith in
-    subst (λ (i : ℕ). Coded ws n i list) from (subst (λ (i : ℕ). Coded ws i (at + 1 + 4 * e) list) whole k)
 
 -- ---- what a code says
 

@@ -19,10 +19,6 @@ filled_more {k} {x} {f} {list} h l e =
           (λ ne. get_or-set_other list k a x 0 ne ∙ h.at a (omega arith));
     }
 
--- What is filled up to k is filled up to any n that is no more.
-pub filled_to_lem : {k : ℕ} (n : ℕ) {f : ℕ → ℕ} {list : List ℕ} → n ≤ k → Filled k f list → Filled n f list
-filled_to_lem n l h = record { at = λ a i. h.at a (omega arith) }
-
 -- A list filled from another is that list.
 pub filled_copy : (k : ℕ) (from to : List ℕ) → length to ≡ length from → length from ≤ k → Filled k (λ i. get_or from i 0) to → to ≡ from
 filled_copy k from to e l h = ext_get_or 0 to from e (λ i b. h.at i (omega arith))

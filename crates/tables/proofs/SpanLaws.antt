@@ -81,9 +81,6 @@ spanned_more ws z a k first xs row done from exact most few long kept filled =
           ∙ get_or-take (16 * a) xs (16 * b + m) 0 h ∙ done.at b m (omega arith) hm);
     }
 
-pub spanned_to : {p : Problem} {k : ℕ} (n : ℕ) {list : List ℕ} → n ≤ k → Spanned p k list → Spanned p n list
-spanned_to n l h = record { at = λ a m i j. h.at a m (omega arith) j }
-
 -- The span that a table holds for an activity on a machine.
 pub span_at_lem : (p : Problem) (table : List ℕ) (a m : ℕ) → Tabled p table → a < 128 → m < 16 → a < p.n → m < p.machines
     → get_or table (4739 + 16 * a + m) 0 ≡ own_span p a m

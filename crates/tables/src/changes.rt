@@ -28,9 +28,8 @@ fn put_changes(s: &[u8], z: Layout, changes: &mut [usize])
     ensures { Coded (words s.now) (count (words s.now) z z.at.setups) (z.at.setups + 1) changes.new }
 {
     let at = z.at.setups;
-    let mut e = words::word(s, at) as usize;
-    while 0 < e {
-        e -= 1;
+    let count = words::word(s, at) as usize;
+    for e in (0..count).rev() {
         put_change(s, at + 1 + 4 * e, changes);
     }
 }
@@ -41,6 +40,6 @@ pub fn fill_changes(s: &[u8], z: Layout, changes: &mut [usize])
     requires { Placed z × Entries (words s.now) z × (length changes.old ≡ 1152) }
     ensures { Coded (words s.now) (count (words s.now) z z.at.setups) (z.at.setups + 1) changes.new }
 {
-    graph::clear(changes);
+    changes.fill(0);
     put_changes(s, z, changes);
 }

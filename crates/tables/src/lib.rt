@@ -70,7 +70,7 @@ fn fill_activities(s: &[u8], z: Layout, owners: &[usize], part: &mut [usize])
     requires { Placed z × (length owners.now ≡ 128) × Filled z.activities (task_of (words s.now) z) owners.now × (length part.old ≡ 512) }
     ensures { Activities (problem_of (words s.now) z) part.new }
 {
-    copy(owners, &mut part[OWNERS..NEXTS]);
+    part[OWNERS..NEXTS].copy_from_slice(owners);
     fill_nexts(owners, z.activities, &mut part[NEXTS..RELEASES]);
     fill_releases(s, z, owners, &mut part[RELEASES..CATEGORIES]);
     fill_categories(s, z, owners, &mut part[CATEGORIES..WAITS]);

@@ -5,7 +5,6 @@ ghost use Rattle.tables.specs.Regions.{cells};
 ghost use Rattle.tables.specs.Tabled.{Tabled, task_pred, task_succ, own_span};
 ghost use Rattle.tables.specs.Found.{Held};
 
-
 // The task of an activity.
 pub fn owner(table: &[usize], a: usize) -> usize
     requires { (a < 128) × (length table.now ≡ cells) }

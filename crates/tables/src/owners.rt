@@ -35,11 +35,9 @@ pub fn fill_owners(s: &[u8], z: Layout, owners: &mut [usize])
         task: 0,
         end: plan::steps(s, z, 0) as usize,
     };
-    let mut a: usize = 0;
-    while a < z.activities {
+    for a in 0..z.activities {
         place = place_of(s, z, place, a);
         owners[a] = place.task;
-        a += 1;
     }
 }
 
@@ -63,10 +61,8 @@ pub fn fill_nexts(owners: &[usize], n: usize, nexts: &mut [usize])
     requires { (n ≤ length owners.now) × (n ≤ length nexts.old) }
     ensures { Filled n (next_in owners.now n) nexts.new }
 {
-    let mut a: usize = 0;
-    while a < n {
+    for a in 0..n {
         nexts[a] = next_in(owners, n, a);
-        a += 1;
     }
 }
 
@@ -90,10 +86,8 @@ pub fn fill_befores(owners: &[usize], n: usize, befores: &mut [usize])
     requires { (n ≤ length owners.now) × (n ≤ length befores.old) }
     ensures { Filled n (before_in owners.now) befores.new }
 {
-    let mut a: usize = 0;
-    while a < n {
+    for a in 0..n {
         befores[a] = before_in(owners, a);
-        a += 1;
     }
 }
 
@@ -102,11 +96,9 @@ pub fn fill_releases(s: &[u8], z: Layout, owners: &[usize], releases: &mut [usiz
     requires { Placed z × (z.activities ≤ length owners.now) × (z.activities ≤ length releases.old) × Filled z.activities (task_of (words s.now) z) owners.now }
     ensures { Filled z.activities (problem_of (words s.now) z).release releases.new }
 {
-    let mut a: usize = 0;
-    while a < z.activities {
+    for a in 0..z.activities {
         let t = owners[a];
         releases[a] = plan::later_release(s, z, t, a) as usize;
-        a += 1;
     }
 }
 
@@ -115,10 +107,8 @@ pub fn fill_categories(s: &[u8], z: Layout, owners: &[usize], categories: &mut [
     requires { Placed z × (z.activities ≤ length owners.now) × (z.activities ≤ length categories.old) × Filled z.activities (task_of (words s.now) z) owners.now }
     ensures { Filled z.activities (λ a. (problem_of (words s.now) z).category (task_of (words s.now) z a)) categories.new }
 {
-    let mut a: usize = 0;
-    while a < z.activities {
+    for a in 0..z.activities {
         let t = owners[a];
         categories[a] = plan::category(s, z, t) as usize;
-        a += 1;
     }
 }

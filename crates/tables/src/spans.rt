@@ -36,10 +36,8 @@ fn fill_machines(s: &[u8], first: usize, spans: &mut [usize])
     requires { (first < 2 ^ 34) × (length spans.old < 2 ^ 34) }
     ensures { Filled (length spans.old) (λ m. row_sum (words s.now) (first + 3 * m)) spans.new }
 {
-    let mut m = 0;
-    while m < spans.len() {
-        spans[m] = sum_row(s, first + 3 * m);
-        m += 1;
+    for (m, span) in spans.iter_mut().enumerate() {
+        *span = sum_row(s, first + 3 * m);
     }
 }
 
@@ -50,12 +48,10 @@ pub fn fill_spans(s: &[u8], z: Layout, spans: &mut [usize])
 {
     let machines = z.machines;
     let mut first = z.at.times + 1;
-    let mut a: usize = 0;
-    while a < z.activities {
+    for a in 0..z.activities {
         let from = 16 * a;
         let to = from + machines;
         fill_machines(s, first, &mut spans[from..to]);
         first += 3 * machines;
-        a += 1;
     }
 }

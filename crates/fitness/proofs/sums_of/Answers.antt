@@ -1,6 +1,6 @@
 -- `fitness::sums_of` meets its contract. The loop's invariant: of the tasks passed, `makespan` is the latest completion and `late` the sum of the
 -- tardinesses, and `first` is the next task's first activity.
-use Prim.Native.Nat.{◌+◌, ◌-◌, ◌≤◌, ◌^◌}
+use Prim.Native.Nat.{◌+◌, ◌≤◌, ◌^◌}
 use mathlib.Core.Path.{◌≡◌, refl, sym, ap, ◌∙◌}
 use native.Mathlib.Omega.{arith}
 use lib.ListN.{get_or}
@@ -16,14 +16,8 @@ pub loop-t-init : goal.loop-t-init
 unfolding latest sum_to
 loop-t-init c = (omega arith, sym c.requires.placed.1.starting, refl, refl)
 
-pub steps-steps-requires : goal.steps-steps-requires
-steps-steps-requires c = (c.requires.placed.0, omega (arith, c.requires.placed.0.tasks))
-
 pub completion-done-requires : goal.completion-done-requires
 completion-done-requires c = omega (arith, task_within c.requires.placed.1 c.loop-t.t c.loop-t-test.true, c.steps-steps.ensures, c.loop-t.invariant.1, c.requires.ended.each)
-
-pub deadline-due-requires : goal.deadline-due-requires
-deadline-due-requires c = (c.requires.placed.0, omega (arith, c.requires.placed.0.tasks, c.loop-t.invariant.0))
 
 pub tardiness-late-requires : goal.tardiness-late-requires
 tardiness-late-requires c = let done-is : c.completion-done.result ≡ completion_of (problem_of (words c.args.s.now) c.args.z) (λ a. get_or c.args.ends.now a 0) c.loop-t.t = completion_is (problem_of (words c.args.s.now) c.args.z) (λ a. get_or c.args.ends.now a 0) c.loop-t.t c.loop-t.first
@@ -53,7 +47,7 @@ loop-t-preserved c = let done-is : c.completion-done.result ≡ completion_of (p
     c.completion-done.result c.tardiness-late.result c.tardiness-late.ensures c.deadline-due.ensures done-is in (
       omega (arith, c.loop-t-test.true),
       omega (arith, c.requires.placed.1.next_first c.loop-t.t, c.loop-t.invariant.1, c.steps-steps.ensures),
-      latest_next _ c.loop-t.invariant.2 done-is c.later-makespan.ensures,
+      latest_next _ c.loop-t.invariant.2 done-is c.max-makespan.ensures,
       sum_next _ c.loop-t.invariant.3 late_is,
     )
 

@@ -1,6 +1,6 @@
 -- `fitness::sums_of` meets its contract. The loop's invariant: of the tasks passed, `makespan` is the latest completion and `late` the sum of the
 -- tardinesses, and `first` is the next task's first activity.
-use Prim.Native.Nat.{◌-◌, ◌≤◌}
+use Prim.Native.Nat.{◌≤◌}
 use mathlib.Core.Path.{◌≡◌}
 use lib.ListN.{get_or}
 use Rattle.words.specs.Words.{words}
@@ -12,6 +12,3 @@ abbrev pub invariant-loop-t : goal.invariant-loop-t
 invariant-loop-t l = (l.t ≤ l.z.tasks) × (l.first ≡ (problem_of (words l.s) l.z).first l.t)
     × (l.makespan ≡ latest (completion_of (problem_of (words l.s) l.z) (λ a. get_or l.ends a 0)) 0 l.t)
     × (l.late ≡ sum_to (lateness (problem_of (words l.s) l.z) (λ a. get_or l.ends a 0)) l.t)
-
-abbrev pub decreases-loop-t : goal.decreases-loop-t
-decreases-loop-t l = l.z.tasks - l.t

@@ -3,7 +3,6 @@
 use Rattle.genes.proofs.MachineLaws.{fill_begin, fill_on, fill_without, fill_end}
 use native.Mathlib.Omega.{arith}
 use mathlib.Core.Path.{sym, ◌∙◌}
-use Prim.Native.Nat.{◌-◌}
 use Rattle.genes.proofs.fill_machines.Goals as goal
 
 pub loop-a-init : goal.loop-a-init
@@ -16,9 +15,6 @@ loop-a-preserved-in_default c = fill_without c.loop-a.invariant _ (cc) c.loop-a-
 pub loop-a-preserved : goal.loop-a-preserved
 loop-a-preserved c = fill_on c.loop-a.invariant c.in-Some.m _ (omega arith) c.loop-a-test.true
     (sym c.in-Some.is ∙ c.assigned.ensures)
-
-pub shape_of-machines : goal.shape_of-machines
-shape_of-machines c = c.loop-a.invariant.sized
 
 pub returns : goal.returns
 returns c = record { value = (fill_end c.loop-a.invariant c.loop-a-test.false).0; machines_after = (fill_end c.loop-a.invariant c.loop-a-test.false).1 }

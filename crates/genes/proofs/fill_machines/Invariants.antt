@@ -3,11 +3,7 @@
 use Rattle.genes.proofs.MachineLaws.{Filling}
 use Rattle.plan.specs.Input.{genes_of}
 use Rattle.words.specs.Words.{words}
-use Prim.Native.Nat.{◌-◌}
 use Rattle.genes.proofs.fill_machines.Given as goal
 
 abbrev pub invariant-loop-a : goal.invariant-loop-a
 invariant-loop-a l = Filling (genes_of (words l.s) l.z) l.z.activities l.initial.machines l.machines l.all l.a
-
-abbrev pub decreases-loop-a : goal.decreases-loop-a
-decreases-loop-a l = l.z.activities - l.a

@@ -1,6 +1,5 @@
 -- `genes::indexed` meets its contract. The loop's invariant: the activities held, and what the words left give, are what the order gives; `named`
 -- counts how often each task was named. Assumes nothing.
-use Prim.Native.Nat.{◌-◌}
 use Rattle.words.specs.Words.{words}
 use Rattle.plan.specs.Input.{problem_of, genes_of}
 use Rattle.genes.proofs.OrderLaws.{Indexing}
@@ -8,6 +7,3 @@ use Rattle.genes.proofs.indexed.Given as goal
 
 abbrev pub invariant-loop-k : goal.invariant-loop-k
 invariant-loop-k l = Indexing (problem_of (words l.s) l.z) (genes_of (words l.s) l.z) l.firsts l.initial.activities l.activities l.named l.count l.k
-
-abbrev pub decreases-loop-k : goal.decreases-loop-k
-decreases-loop-k l = l.namings - l.k

@@ -1,5 +1,4 @@
 -- `plan::transport_row` meets its contract. The loop's invariant: the cells passed are filled.
-use Prim.Native.Nat.{◌≤◌, ◌-◌}
 use mathlib.Core.Path.{◌≡◌}
 use Rattle.words.specs.Words.{words}
 use Rattle.plan.specs.Input.{problem_of}
@@ -7,7 +6,4 @@ use Rattle.plan.specs.Found.{row_to}
 use Rattle.plan.proofs.transport_row.Given as goal
 
 abbrev pub invariant-loop-to : goal.invariant-loop-to
-invariant-loop-to l = (l.to ≤ l.z.machines) × (l.row ≡ row_to ((problem_of (words l.s) l.z).transport l.from) l.to)
-
-abbrev pub decreases-loop-to : goal.decreases-loop-to
-decreases-loop-to l = l.z.machines - l.to
+invariant-loop-to l = l.row ≡ row_to ((problem_of (words l.s) l.z).transport l.from) l.to

