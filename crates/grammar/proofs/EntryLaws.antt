@@ -1,13 +1,13 @@
 -- Laws of the rules about entries: one turn of each search, and that a pair given twice is found among its activity's own entries.
-use Prim.Native.Nat.{ℕ, zero, suc, ◌+◌, ◌-◌, ◌≤◌, ◌<◌}
+use Prim.Native.Nat.{ℕ, zero, suc, ◌+◌, ◌-◌, ◌*◌, ◌≤◌, ◌<◌}
 use mathlib.Core.Path.{◌≡◌, refl, sym, ap, ◌∙◌, subst}
 use mathlib.Core.Bool.{Bool, true, false, ◌&&◌, ◌||◌}
 use mathlib.Core.List.{List}
-use mathlib.Core.Logic.{◌⊎◌, inl, inr}
 use native.Mathlib.Omega.{arith}
-use lib.Dec.{eqb, ltb, leb}
+use lib.Dec.{eqb, ltb}
+use Rattle.std.proofs.Math.Bool.{or-false}
 use lib.ListN.{get_or}
-use borrow.Author.Tests.{eq-eqb, ne_eqb, lt-ltb, le-ltb, leb-true}
+use borrow.Author.Tests.{eq-eqb, ne_eqb, le-ltb, leb-true}
 use Rattle.grammar.specs.Rules.{rising, pair_before, precedes, Risen, total_from}
 
 -- A count that is not 0 is one more than another.
@@ -74,27 +74,38 @@ module _ (ws : List ℕ) (w : ℕ) where
 
 -- One turn of comparing words.
 module _ (ws : List ℕ) where
-  before_step : (n p q : ℕ) → 0 < n
-      → precedes ws n p q ≡ (ltb (get_or ws p 0) (get_or ws q 0) || (eqb (get_or ws p 0) (get_or ws q 0) && precedes ws (n - 1) (p + 1) (q + 1)))
+  before_step : (n k p q : ℕ) → k < n
+      → precedes ws (n - k) (p + k) (q + k)
+      ≡ (ltb (get_or ws (p + k) 0) (get_or ws (q + k) 0)
+      || (eqb (get_or ws (p + k) 0) (get_or ws (q + k) 0) && precedes ws (n - (k + 1)) (p + (k + 1)) (q + (k + 1))))
   unfolding precedes
-  before_step n p q h = ap (λ (k : ℕ). precedes ws k p q) (one_more n h)
+  before_step n k p q h =
+      let e : n - k ≡ suc (n - (k + 1)) = omega arith in
+      let f : p + k + 1 ≡ p + (k + 1) = omega arith in
+      let g : q + k + 1 ≡ q + (k + 1) = omega arith in
+      rw (e, f, g)
 
-  pub before_less : (n p q : ℕ) → 0 < n → get_or ws p 0 < get_or ws q 0 → precedes ws n p q ≡ true
-  before_less n p q h l = before_step n p q h ∙ rw (lt-ltb _ _ l)
+  -- The first words that differ decide.
+  pub before_differs : (n k p q : ℕ) {x y : ℕ} → k < n → x ≡ get_or ws (p + k) 0 → y ≡ get_or ws (q + k) 0 → (x ≡ y → ⊥)
+      → ltb x y ≡ precedes ws (n - k) (p + k) (q + k)
+  before_differs n k p q h ex ey ne = rw (before_step n k p q h, ← ex, ← ey, ne_eqb _ _ ne, or-false)
 
-  pub before_more : (n p q : ℕ) → 0 < n → get_or ws q 0 ≤ get_or ws p 0 → (get_or ws p 0 ≡ get_or ws q 0 → ⊥) → precedes ws n p q ≡ false
-  before_more n p q h l ne = before_step n p q h ∙ rw (le-ltb _ _ l, ne_eqb _ _ ne)
+  pub before_same : (n k p q : ℕ) {x y : ℕ} → k < n → x ≡ get_or ws (p + k) 0 → y ≡ get_or ws (q + k) 0 → x ≡ y
+      → precedes ws (n - k) (p + k) (q + k) ≡ precedes ws (n - (k + 1)) (p + (k + 1)) (q + (k + 1))
+  before_same n k p q {x} {y} h ex ey e = let l : y ≤ x = omega arith in rw (before_step n k p q h, ← ex, ← ey, le-ltb _ _ l, eq-eqb _ _ e)
 
-  pub before_same : (n p q : ℕ) → 0 < n → get_or ws q 0 ≤ get_or ws p 0 → get_or ws p 0 ≡ get_or ws q 0 → precedes ws n p q ≡ precedes ws (n - 1) (p + 1) (q + 1)
-  before_same n p q h l e = before_step n p q h ∙ rw (le-ltb _ _ l, eq-eqb _ _ e)
-
-  pub before_none : (n p q : ℕ) → n ≤ 0 → precedes ws n p q ≡ false
+  pub before_none : (n k p q : ℕ) → n ≤ k → precedes ws (n - k) p q ≡ false
   unfolding precedes
-  before_none n p q h = let e : n ≡ 0 = omega arith in ap (λ (k : ℕ). precedes ws k p q) e
+  before_none n k p q h = let e : n - k ≡ 0 = omega arith in rw e
 
-  pub total_step : (n i : ℕ) → 0 < n → total_from ws n i ≡ get_or ws (i + 4) 0 + total_from ws (n - 1) (i + 5)
+  -- One turn of summing.
+  pub total_step : (n e at : ℕ) → e < n
+      → total_from ws (n - e) (at + 5 * e) ≡ get_or ws (at + 5 * e + 4) 0 + total_from ws (n - (e + 1)) (at + 5 * (e + 1))
   unfolding total_from
-  total_step n i h = ap (λ (k : ℕ). total_from ws k i) (one_more n h)
+  total_step n e at h =
+      let d : n - e ≡ suc (n - (e + 1)) = omega arith in
+      let f : at + 5 * e + 5 ≡ at + 5 * (e + 1) = omega arith in
+      rw (d, f)
 
   pub total_none : (n i : ℕ) → n ≤ 0 → total_from ws n i ≡ 0
   unfolding total_from

@@ -1,3 +1,1 @@
-pub mod ProductLaws
-pub mod TableLaws
 pub mod EntryLaws

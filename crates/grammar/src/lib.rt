@@ -74,19 +74,6 @@ pub struct Known {
     pub total: u64,
 }
 
-// a - b, or 0 where b is more.
-pub fn minus(a: usize, b: usize) -> usize
-    ensures { result ≡ a - b }
-{
-    if b <= a { a - b } else { 0 }
-}
-
-fn wide(x: u32) -> u64
-    ensures { result ≡ x }
-{
-    x as u64
-}
-
 // The rows, in the paper's order.
 pub fn section_at(i: usize) -> Section
     requires { i < 10 }
@@ -289,20 +276,14 @@ pub fn back_of(kind: Kind) -> usize
     }
 }
 
-fn product(a: u32, b: u32) -> u64
-    ensures { result ≡ a * b }
-{
-    wide(a) * wide(b)
-}
-
 // Whether a count keeps its rule.
 pub fn is_count_kept(check: Check, k: Known, n: u32) -> bool
     ensures { result ≡ count_kept check k n }
 {
     match check {
         Check::None => true,
-        Check::Total => k.total == wide(n),
-        Check::Product => wide(n) == product(k.activities, k.machines),
+        Check::Total => k.total == n as u64,
+        Check::Product => n as u64 == k.activities as u64 * k.machines as u64,
         Check::Most => n <= k.activities,
     }
 }
@@ -311,7 +292,7 @@ pub fn is_count_kept(check: Check, k: Known, n: u32) -> bool
 fn is_rising(s: &[u8], w: usize, done: usize, at: usize) -> bool
     ensures { result ≡ rising (words s.now) w done at }
 {
-    done == 0 || words::word(s, minus(at, w)) <= words::word(s, at)
+    done == 0 || words::word(s, at.saturating_sub(w)) <= words::word(s, at)
 }
 
 // Whether one of the entries before `at` begins with the words a, m. The entries before have risen to a or less, so those of a are the last
@@ -323,7 +304,7 @@ fn pair_before(s: &[u8], w: usize, done: usize, at: usize, a: u32, m: u32) -> bo
     let mut left = done;
     let mut p = at;
     while 0 < left {
-        p = minus(p, w);
+        p = p.saturating_sub(w);
         left -= 1;
         if words::word(s, p) != a {
             return false;
@@ -340,21 +321,12 @@ fn comes_before(s: &[u8], n: usize, i: usize, j: usize) -> bool
     requires { (i + n < 2 ^ 63) × (j + n < 2 ^ 63) }
     ensures { result ≡ precedes (words s.now) n i j }
 {
-    let mut left = n;
-    let mut p = i;
-    let mut q = j;
-    while 0 < left {
-        let x = words::word(s, p);
-        let y = words::word(s, q);
-        if x < y {
-            return true;
-        }
+    for k in 0..n {
+        let x = words::word(s, i + k);
+        let y = words::word(s, j + k);
         if x != y {
-            return false;
+            return x < y;
         }
-        left -= 1;
-        p += 1;
-        q += 1;
     }
     false
 }
@@ -364,7 +336,7 @@ fn is_strict(s: &[u8], w: usize, done: usize, at: usize) -> bool
     requires { at < 2 ^ 62 }
     ensures { result ≡ strict (words s.now) w done at }
 {
-    done == 0 || comes_before(s, 3, minus(at, w), at)
+    done == 0 || comes_before(s, 3, at.saturating_sub(w), at)
 }
 
 // Whether the entry at `at`, after `done` others of w words each, keeps its rule.
@@ -408,13 +380,9 @@ fn total(s: &[u8], n: u32, at: usize) -> u64
     requires { at < 2 ^ 62 }
     ensures { result ≡ total_from (words s.now) n at }
 {
-    let mut left = n;
-    let mut p = at;
     let mut sum: u64 = 0;
-    while 0 < left {
-        sum += wide(words::word(s, p + 4));
-        p += 5;
-        left -= 1;
+    for e in 0..n as usize {
+        sum += words::word(s, at + 5 * e + 4) as u64;
     }
     sum
 }

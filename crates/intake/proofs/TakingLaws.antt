@@ -4,11 +4,13 @@ use mathlib.Core.Bool.{Bool, true, false}
 use mathlib.Core.List.{List}
 use Prim.Native.Nat.{ℕ}
 use native.Mathlib.Omega.{arith}
+use Rattle.std.specs.Prelude.{Ok, Err}
 use Rattle.words.specs.Words.{words}
 use Rattle.reader.specs.Reading.{read_all, no, yes}
 use Rattle.reader.specs.Answer.{Reading}
 use Rattle.reader.specs.Answer.{Answer}
 use Rattle.reader.specs.Answer.{Accepted as Taken, No}
+use Rattle.reader.specs.declared.refusal.Refusal.{Refusal}
 use Rattle.reader.proofs.AcceptedLaws.{answered}
 use Rattle.plan.specs.Input.{problem_of, genes_of}
 use Rattle.plan.specs.Found.{Placed, layout_of}
@@ -20,7 +22,23 @@ use Rattle.tables.specs.Entries.{Entries}
 use Rattle.tables.proofs.EntriesLaws.{entries_of}
 use Rattle.tables.specs.Tabled.{Tabled}
 use Rattle.intake.specs.Circle.{closes_circle}
-use Rattle.intake.specs.Intake.{problem_in, then_circle, refused_if, taken_in}
+use Rattle.intake.specs.Intake.{problem_in, then_circle, refused_if, taken_in, laid_as, laid_out}
+
+took_as : (a : Answer) {x z : Layout} → Ok z ≡ laid_as a x → (a ≡ Taken) × (z ≡ x)
+took_as Taken e = (refl, cc)
+took_as (No reason place) e = (cc, cc)
+
+-- A layout that was answered is that of an accepted reading.
+pub took : (r : Reading) {z : Layout} → Ok z ≡ laid_out r → (r.answer ≡ Taken) × (z ≡ layout_of r)
+took r e = took_as r.answer e
+
+refused_as : (a : Answer) (x : Layout) {f : Refusal} → Err f ≡ laid_as a x → a ≡ No f.reason f.place
+refused_as Taken x e = cc
+refused_as (No reason place) x e = cc
+
+-- A refusal that was answered is the reading's.
+pub refused_so : (r : Reading) {f : Refusal} → Err f ≡ laid_out r → r.answer ≡ No f.reason f.place
+refused_so r e = refused_as r.answer _ e
 
 -- What is tabled for a layout is tabled for the reading that it is of.
 pub taken_tabled : (s : List ℕ) (r : Reading) {z : Layout} {table : List ℕ} → z ≡ layout_of r → Tabled (problem_of (words s) z) table → Tabled (problem_in s r) table
