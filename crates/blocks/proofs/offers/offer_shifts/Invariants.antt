@@ -13,6 +13,3 @@ invariant-loop-at l = (l.from ≤ l.at)
     × (length l.heads ≡ length l.initial.heads)
     × (l.best.count ≤ 3)
     × Offers l.all l.m (shifts l.m l.to l.from (l.at - l.from)) l.table l.starts l.ends l.tail l.line (ranked l.initial.best) (ranked l.best)
-
-abbrev pub decreases-loop-at : goal.decreases-loop-at
-decreases-loop-at l = l.end - l.at

@@ -18,6 +18,3 @@ invariant-loop-k l = (l.first ≤ l.k)
     × (length l.heads ≡ length l.initial.heads)
     × (l.ready ≤ 2 ^ 41 + (l.k - l.first) * 2 ^ 34)
     × ((p : Problem) (order : List ℕ) → Weighed p l.table l.starts l.ends → Lined p.n l.line → Heading p (placed order l.starts l.ends) (shifted l.line l.from l.to) (end_before l.ends l.line l.first) l.first l.heads l.ready l.k)
-
-abbrev pub decreases-loop-k : goal.decreases-loop-k
-decreases-loop-k l = l.last + 1 - l.k

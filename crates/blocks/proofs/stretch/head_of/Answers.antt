@@ -22,7 +22,7 @@ later_end-requires c = rw (c.before_of.ensures c.requires.held.problem c.require
 pub returns : goal.returns
 returns c = λ p t h.
     let f : ℕ → ℕ = λ b. get_or c.args.ends.now b 0 in
-    let free = c.greater-free.ensures ∙ ap (λ (y : ℕ). max y c.args.ready) (c.release_of.ensures p t h) in
+    let free = c.max-free.ensures ∙ ap (λ (y : ℕ). max y c.args.ready) (c.release_of.ensures p t h) in
     c.later_end.ensures
-    ∙ ap (λ (l : Option ℕ). greatest f (linked l) c.greater-free.result) (c.before_of.ensures p t h)
+    ∙ ap (λ (l : Option ℕ). greatest f (linked l) c.max-free.result) (c.before_of.ensures p t h)
     ∙ ap (greatest f (linked (task_pred p c.args.x))) free

@@ -14,9 +14,6 @@ overflow_add-last c = omega (arith, c.requires.estimable.1.within, c.requires.es
 pub after_at-next-requires : goal.after_at-next-requires
 after_at-next-requires c = (rw c.requires.estimable.0.low.tailed c.requires.estimable.0.lined.standing, addable c.requires.estimable.0.weighed c.requires.estimable.0.low)
 
-pub overflow_add-at : goal.overflow_add-at
-overflow_add-at c = omega (arith, c.requires.estimable.1.within, c.requires.estimable.0.lined.short)
-
 pub loop-at-init : goal.loop-at-init
 loop-at-init c = (omega (arith, c.requires.estimable.1.rising), omega arith, λ p order v l e held. tails_begin (c.after_at-next.ensures order), omega (arith, c.after_at-next.ensures [], after_at_low c.requires.estimable.0.weighed [] c.requires.estimable.0.low c.args.line.now (c.args.last + 1)))
 
@@ -70,7 +67,7 @@ loop-at-preserved c = let h = stands c.requires.estimable.0.lined c.requires.est
       omega (arith, c.loop-at.invariant.1),
       λ p order v l e held.
           let t = c.tail_of.ensures p v.tabled (omega (arith, c.moved-x.ensures, stands e c.requires.estimable.1 k (omega (arith, c.loop-at.invariant.1)))) l.tailed in
-          tails_again (c.loop-at.invariant.2 p order v l e held) held c.loop-at-test.true c.loop-at.invariant.1 c.moved-x.result (get_or c.args.heads.now k 0) (get_or c.args.ends.now c.moved-x.result 0 - get_or c.args.starts.now c.moved-x.result 0 + c.tail_of.result) c.greater-most.result c.moved-x.ensures refl (ap (λ (z : ℕ). get_or c.args.ends.now c.moved-x.result 0 - get_or c.args.starts.now c.moved-x.result 0 + z) t) c.greater-most.ensures,
+          tails_again (c.loop-at.invariant.2 p order v l e held) held c.loop-at-test.true c.loop-at.invariant.1 c.moved-x.result (get_or c.args.heads.now k 0) (get_or c.args.ends.now c.moved-x.result 0 - get_or c.args.starts.now c.moved-x.result 0 + c.tail_of.result) c.max-most.result c.moved-x.ensures refl (ap (λ (z : ℕ). get_or c.args.ends.now c.moved-x.result 0 - get_or c.args.starts.now c.moved-x.result 0 + z) t) c.max-most.ensures,
       omega (arith, c.loop-at.invariant.1, c.loop-at-test.true, c.tail_of.ensures c.requires.estimable.0.problem c.requires.estimable.0.weighed.tabled (omega (arith, c.moved-x.ensures)) c.requires.estimable.0.low.tailed, rest_low c.requires.estimable.0.weighed [] c.requires.estimable.0.low c.loop-at.next c.moved-x.result, span_all c.requires.estimable.0.weighed c.moved-x.result, c.loop-at.invariant.3),
     )
 
