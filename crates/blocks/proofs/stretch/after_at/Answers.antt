@@ -1,6 +1,5 @@
 -- `blocks::stretch::after_at` meets its contract.
-use borrow.Author.Tests.{lt-ltb, le-ltb}
-use lib.ListN.{length, get_or}
+use lib.ListN.{length}
 use native.Mathlib.Omega.{arith}
 use Rattle.graph.proofs.CountingLaws.{below_at}
 use Rattle.blocks.proofs.stretch.after_at.Goals as goal
@@ -22,15 +21,3 @@ offset_bounds-tail-x c = let h = below_at (length c.args.tail.now) c.args.line.n
 
 pub bounds-tail-x : goal.bounds-tail-x
 bounds-tail-x c = let h = below_at (length c.args.tail.now) c.args.line.now c.args.at c.requires.0 c.if-at-line.true in omega (arith, c.requires.1.started, c.requires.1.ended)
-
-pub overflow_sub-result : goal.overflow_sub-result
-overflow_sub-result c = omega (arith, c.requires.1.upright (get_or c.args.line.now c.args.at 0) (below_at (length c.args.tail.now) c.args.line.now c.args.at c.requires.0 c.if-at-line.true))
-
-pub overflow_add-result : goal.overflow_add-result
-overflow_add-result c = omega (arith, c.requires.1.small (get_or c.args.line.now c.args.at 0) (below_at (length c.args.tail.now) c.args.line.now c.args.at c.requires.0 c.if-at-line.true))
-
-pub returns-then-at-line : goal.returns-then-at-line
-returns-then-at-line c = λ order. rw (lt-ltb _ _ c.if-at-line.true)
-
-pub returns : goal.returns
-returns c = λ order. rw (le-ltb _ _ c.if-at-line.false)
