@@ -69,7 +69,7 @@ fn head_of(table: &[usize], ends: &[u64], a: usize) -> u64
     let released = bounds::release_of(table, a);
     let there = bounds::arrival(tables::before_of(table, a), ends, 0);
     let named = timing::after_named(tables::named_by(table, a), ends, released);
-    bounds::later(named, there)
+    named.max(there)
 }
 
 // The greatest span plus tail of the step after an activity and of those waiting for it.

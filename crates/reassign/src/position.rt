@@ -58,7 +58,7 @@ fn length_at(line: &[usize], starts: &[u64], ends: &[u64], tail: &[u64], way: Wa
     ensures { result ≡ length_at (unordered starts.now ends.now) tail.now line.now way i }
 {
     let free = bounds::arrival(line_before(line, i), ends, 0);
-    let head = bounds::later(way.head, free);
+    let head = way.head.max(free);
     let rest = path::after_link(line_at(line, i), starts, ends, tail, way.rest);
     head + way.time + rest
 }
