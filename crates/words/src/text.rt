@@ -25,10 +25,8 @@ pub fn put_decimal(line: &mut [u8], at: usize, v: u64) -> usize
         return at;
     }
     let end = at + n;
-    let mut i = end;
     let mut rest = v;
-    while at < i {
-        i -= 1;
+    for i in (at..end).rev() {
         line[i] = last_decimal(rest);
         rest /= 10;
     }
@@ -44,10 +42,8 @@ pub fn put_hex(line: &mut [u8], at: usize, v: u64) -> usize
         return at;
     }
     let end = at + 16;
-    let mut i = end;
     let mut rest = v;
-    while at < i {
-        i -= 1;
+    for i in (at..end).rev() {
         line[i] = last_hex(rest);
         rest /= 16;
     }
