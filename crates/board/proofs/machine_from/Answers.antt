@@ -17,4 +17,4 @@ pub returns-in_default-assigned : goal.returns-in_default-assigned
 returns-in_default-assigned c = from_without (genes_of (words c.args.s.now) c.args.z) c.in-Some.q c.in-Some.is (sym c.in_default-assigned.is ∙ c.assigned.ensures)
 
 pub returns : goal.returns
-returns c = from_on (genes_of (words c.args.s.now) c.args.z) c.in-Some.q c.in-Some.m c.in-Some.is (sym c.in-Some.is ∙ c.assigned.ensures)
+returns c = from_on (genes_of (words c.args.s.now) c.args.z) c.in-Some.q c.in-Some-assigned.m c.in-Some.is (sym c.in-Some-assigned.is ∙ c.assigned.ensures)
