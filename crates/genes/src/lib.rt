@@ -81,16 +81,9 @@ pub fn fill_machines(s: &[u8], z: Layout, machines: &mut [usize]) -> bool
     all
 }
 
-// Whether the genes give lines of all activities; if so, how many activities stand on each machine.
-#[derive(Clone, Copy)]
-pub struct Lot {
-    pub whole: bool,
-    pub lens: [usize; 16],
-}
-
-// Deals the lines that the genes give. Where an activity has no machine, or the order names too few, there are none, and the cells are
-// left as they are.
-pub fn deal_lines(s: &[u8], z: Layout, cells: &mut [usize]) -> Lot
+// Deals the lines that the genes give, and answers how many activities stand on each machine. Where an activity has no machine, or the order
+// names too few, there are none, and the cells are left as they are.
+pub fn deal_lines(s: &[u8], z: Layout, cells: &mut [usize]) -> Option<[usize; 16]>
     requires { Placed z × Accepted (problem_of (words s.now) z) (genes_of (words s.now) z) × (length cells.old ≡ 2048) }
     ensures { Lines (problem_of (words s.now) z) (genes_of (words s.now) z) cells.new result }
 {
@@ -99,17 +92,10 @@ pub fn deal_lines(s: &[u8], z: Layout, cells: &mut [usize]) -> Lot
     let all = fill_machines(s, z, &mut on);
     let count = indexed(s, z, &mut listed);
     if !all {
-        return Lot {
-            whole: false,
-            lens: [0; 16],
-        };
+        return None;
     }
     if count < z.activities {
-        return Lot {
-            whole: false,
-            lens: [0; 16],
-        };
+        return None;
     }
-    let lens = lines::deal(&listed[..count], &on, cells);
-    Lot { whole: true, lens }
+    Some(lines::deal(&listed[..count], &on, cells))
 }
