@@ -1,4 +1,5 @@
 -- `plan::transport_row` meets its contract. The loop's invariant: the cells passed are filled.
+use Prim.Native.Nat.{◌-◌}
 use mathlib.Core.Path.{◌≡◌, ap, ◌∙◌}
 use native.Mathlib.Omega.{arith}
 use Rattle.plan.specs.Found.{row_to}

@@ -1,4 +1,5 @@
 -- `plan::transports` meets its contract. The loop's invariant: the rows passed are filled.
+use Prim.Native.Nat.{◌-◌}
 use mathlib.Core.Path.{◌≡◌, ap, ◌∙◌}
 use native.Mathlib.Omega.{arith}
 use Rattle.plan.specs.Found.{rows_of}
