@@ -5,7 +5,6 @@
 ghost use Rattle.std.specs.Prelude.{OnErr};
 ghost use Rattle.stream.specs.Stream.{Loses};
 
-use reader::Answer;
 use std::io;
 use std::io::{Read, Write};
 
@@ -15,9 +14,7 @@ fn main(rt: HostRuntime) -> io::Result<()> {
     let mut space = [0u8; 65536];
     let plan: &mut [u8] = &mut space;
     // So many plans are enough for any run.
-    let mut left: usize = 100_000_000;
-    while 0 < left {
-        left -= 1;
+    for _ in 0..100_000_000 {
         if !take_one(&mut input, &mut out, plan)? {
             return Ok(());
         }
@@ -39,15 +36,15 @@ fn take_one<R: Read, W: Write>(input: &mut R, out: &mut W, plan: &mut [u8]) -> i
 fn show<W: Write>(out: &mut W, plan: &[u8]) -> io::Result<()> {
     let mut room = intake::table_room();
     let table: &mut [usize] = &mut room;
-    let r = intake::take_in(plan, table);
-    let answer = r.answer;
-    match answer {
-        Answer::No(number, place) => { line(out, "refused", number as u64, place as u64) }
-        Answer::Accepted => {
-            let k = r.known;
-            let tasks = k.tasks;
+    match intake::take_in(plan, table) {
+        Ok(z) => {
+            let tasks = z.tasks;
             write!(out, "accepted {tasks}")?;
-            line(out, "", k.activities as u64, k.machines as u64)
+            line(out, "", z.activities as u64, z.machines as u64)
+        }
+        Err(refusal) => {
+            let number = refusal.reason.number() as u64;
+            line(out, "refused", number, refusal.place as u64)
         }
     }
 }
