@@ -242,14 +242,12 @@ fn time_genes(
     ensures rows { Leaves (timed_genes (problem_of (words s.now) z) (genes_of (words s.now) z)) activities.old machines.old starts.old ends.old setups.old activities.new machines.new starts.new ends.new setups.new }
 {
     let mut cells = [0usize; 2048];
-    let lot = genes::deal_lines(s, z, &mut cells);
-    if !lot.whole {
+    let Some(lens) = genes::deal_lines(s, z, &mut cells) else {
         return Err(Refusal {
             reason: Reason::Lines,
             place: 0,
         });
-    }
-    let lens = lot.lens;
+    };
     time_lines(
         s, z, table, &cells, lens, activities, machines, starts, ends, setups,
     )

@@ -108,11 +108,9 @@ fn improve_genes(
     if plan::limit(s, z) == 0 {
         return Ending::NoSteps;
     }
-    let lot = genes::deal_lines(s, z, cells);
-    if !lot.whole {
+    let Some(lens) = genes::deal_lines(s, z, cells) else {
         return Ending::Incomplete;
-    }
-    let lens = lot.lens;
+    };
     improve_lines(s, z, table, cells, lens, tasks, machines)
 }
 
