@@ -1,11 +1,12 @@
 -- Sections that were read are read again in other words that agree with these up to a place behind them.
 use Prim.Native.Nat.{ℕ, zero, suc, ◌+◌, ◌*◌, ◌-◌, ◌≤◌, ◌<◌}
 use mathlib.Core.Path.{◌≡◌, refl, sym, ◌∙◌, subst}
+use mathlib.Core.Bool.{true}
 use mathlib.Core.List.{List}
 use native.Mathlib.Omega.{arith}
 use native.Mathlib.Nat.{le_trans, mul-suc, mul-le-mul_left}
 use lib.ListN.{length, get_or}
-use Rattle.grammar.specs.Rules.{width_of, pair_before, precedes, entry_rule, learnt}
+use Rattle.grammar.specs.Rules.{width_of, pair_before, precedes, entry_kept, learnt}
 use Rattle.grammar.specs.Sections.{kind_at}
 use Rattle.grammar.specs.declared.Section.{Section}
 use Rattle.grammar.specs.declared.Known.{Known}
@@ -37,7 +38,7 @@ module _ (k : ℕ) (ws vs : List ℕ) (same : (i : ℕ) → i < k → get_or vs 
   precedes-same (suc n) p q h g =
       rw (same p (omega (arith, h)), same q (omega (arith, g)), precedes-same n (p + 1) (q + 1) (omega (arith, h)) (omega (arith, g))) refl
 
-  rule_same : (rule : Rule) (w done at : ℕ) → at + 3 ≤ k → entry_rule vs rule w done at ≡ entry_rule ws rule w done at
+  rule_same : (rule : Rule) (w done at : ℕ) → at + 3 ≤ k → entry_kept vs rule w done at ≡ entry_kept ws rule w done at
   rule_same Free w done at h = refl
   rule_same Rising w done at h = rw (same (at - w) (omega (arith, h)), same at (omega (arith, h))) refl
   rule_same RisingOnce w done at h =
@@ -51,7 +52,7 @@ module _ (k : ℕ) (ws vs : List ℕ) (same : (i : ℕ) → i < k → get_or vs 
 
   -- A section whose entries keep their rule there.
   pub section_again : (s : Section) (known : Known) (at next : ℕ) → SectionRead ws s known at next → at < k → next ≤ k
-      → ((w e : ℕ) → at + 1 + w * e ≤ next → entry_rule ws s.rule w (0 + e) (at + 1 + w * e) ≡ 0 → entry_rule vs s.rule w (0 + e) (at + 1 + w * e) ≡ 0)
+      → ((w e : ℕ) → at + 1 + w * e ≤ next → entry_kept ws s.rule w (0 + e) (at + 1 + w * e) ≡ true → entry_kept vs s.rule w (0 + e) (at + 1 + w * e) ≡ true)
       → SectionRead vs s known at next
   section_again s known at next r h b rules =
       let n = get_or ws at 0 in

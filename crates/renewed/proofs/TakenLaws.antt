@@ -19,9 +19,7 @@ use Rattle.grammar.specs.declared.Section.{Section}
 use Rattle.grammar.specs.declared.Known.{Known}
 use Rattle.grammar.specs.declared.Keep.TheVariants.{Tasks, Activities, Machines}
 use Rattle.reader.specs.Reading.{read_sections, read_all, nothing_known, nowhere, yes}
-use Rattle.reader.specs.Answer.{Reading}
-use Rattle.reader.specs.Answer.{Answer}
-use Rattle.reader.specs.Answer.{Accepted as Taken, No}
+use Rattle.reader.specs.Answer.{Reading, Answer, Accepted as Taken, No}
 use Rattle.reader.proofs.AcceptedLaws.{SectionRead, SectionsRead, accepted_read, answered}
 use Rattle.plan.specs.Problem.{Problem, Genes}
 use Rattle.plan.specs.Found.{layout_of}
@@ -241,7 +239,7 @@ taken_read s t = by_answer (read_all s).answer t
 
     by_answer : (a : Answer) → (then_circle a s (read_all s)).answer ≡ Taken → then_circle a s (read_all s) ≡ read_all s
     by_answer Taken e = by_circle (closes_circle (problem_in s (read_all s))) e
-    by_answer (No number place) e = refl
+    by_answer (No reason place) e = refl
 
 -- The same problem has the same arcs before lines.
 same_before : {p q : Problem} → Same p q → (a b : ℕ) → Before p a b → Before q a b
