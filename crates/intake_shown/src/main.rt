@@ -15,9 +15,7 @@ fn main(rt: HostRuntime) -> io::Result<()> {
     let mut space = [0u8; 65536];
     let plan: &mut [u8] = &mut space;
     // So many plans are enough for any run.
-    let mut left: usize = 100_000_000;
-    while 0 < left {
-        left -= 1;
+    for _ in 0..100_000_000usize {
         if !take_one(&mut input, &mut out, plan)? {
             return Ok(());
         }
