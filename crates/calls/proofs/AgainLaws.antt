@@ -1,10 +1,10 @@
 -- Lines timed so many times: each time leaves the same.
-use Prim.Native.Nat.{ℕ, zero, suc, ◌+◌, ◌≤◌, ◌<◌}
+use Prim.Native.Nat.{ℕ, zero, suc, ◌≤◌, ◌<◌}
 use mathlib.Core.Path.{◌≡◌, refl, sym, ap, ◌∙◌}
 use mathlib.Core.Bool.{Bool, true, false, false≢true}
 use mathlib.Core.List.{List}
 use native.Mathlib.Omega.{arith}
-use lib.ListN.{length, get_or}
+use lib.ListN.{get_or}
 use Rattle.std.specs.Prelude.{Ok, Err}
 use Rattle.words.specs.Words.{words}
 use Rattle.plan.specs.Problem.{Problem}
@@ -19,7 +19,7 @@ use Rattle.reader.specs.declared.refusal.Refusal.{Refusal}
 use Rattle.lines.specs.Lines.{well_formed}
 use Rattle.intake.specs.Intake.{problem_in, taken_in, laid_out}
 use Rattle.intake.proofs.TakingLaws.{took, refused_so}
-use Rattle.timing.specs.Timing.{contradicts, ends_of}
+use Rattle.timing.specs.Timing.{contradicts}
 use Rattle.timing.specs.Placing.{Rooms, Timed}
 use Rattle.fitness.specs.Fitness.{makespan_of}
 use Rattle.calls.specs.Timing.{makespan_on, last_of, again_if, taken_again, zero_unless}

@@ -1,6 +1,6 @@
 -- Demand 3 for the public call: what an accepted plan's lines come to, told by arcs and bounds.
-use Prim.Native.Nat.{ℕ, suc, ◌+◌, ◌≤◌, ◌<◌}
-use mathlib.Core.Path.{◌≡◌, refl, sym, ap, ap₂, ◌∙◌, subst}
+use Prim.Native.Nat.{ℕ, ◌+◌, ◌≤◌, ◌<◌}
+use mathlib.Core.Path.{◌≡◌, refl, sym, ap, ap₂, ◌∙◌}
 use mathlib.Core.Bool.{Bool, true, false, ◌&&◌, false≢true}
 use mathlib.Core.List.{List, [], ◌∷◌, ◌++◌}
 use native.Mathlib.Omega.{arith}
@@ -33,7 +33,7 @@ use Rattle.timing.proofs.Demand3.{timing_exact}
 use Rattle.rows.specs.Rows.{gathered, over, Roomy}
 use Rattle.rows.proofs.RowLaws.{length-gathered, gathered_at}
 use Rattle.calls.specs.declared.Sheet.{Sheet}
-use Rattle.calls.specs.Outcome.{Outcome, answer_of, Leaves}
+use Rattle.calls.specs.Outcome.{answer_of, Leaves}
 use Rattle.calls.specs.Timing.{fitness_on, eight_if, timed_lines, timed, roomy}
 use Rattle.calls.specs.Demand3.{in_row, Least, Demand3}
 use Rattle.calls.proofs.PrefixLaws.{prefix_is}

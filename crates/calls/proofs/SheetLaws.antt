@@ -1,10 +1,10 @@
 -- From timed lines to the sheet that is written.
 use Prim.Native.Nat.{ℕ, ◌+◌, ◌≤◌, ◌<◌}
-use mathlib.Core.Path.{◌≡◌, refl, sym, ap, ap₂, ◌∙◌, subst}
+use mathlib.Core.Path.{◌≡◌, refl, sym, ap, ◌∙◌, subst}
 use mathlib.Core.Bool.{Bool, true, false, not, ◌&&◌, false≢true}
 use mathlib.Core.List.{List, []}
 use native.Mathlib.Omega.{arith}
-use lib.ListN.{length, get_or, take, replicate}
+use lib.ListN.{length, get_or, replicate}
 use lib.Seq.{ext_get_or}
 use Rattle.std.specs.Prelude.{Ok, Err}
 use Rattle.words.specs.Words.{words}
@@ -18,7 +18,7 @@ use Rattle.plan.specs.Accepted.{Accepted}
 use Rattle.lines.specs.Lines.{Lines, WellFormed, machine_of}
 use Rattle.intake.specs.Circle.{each}
 use Rattle.intake.proofs.BareShop.{each_at, length-each}
-use Rattle.timing.specs.Timing.{timing_order, counts_for, contradicts, span_at, starts_of, start_of, ends_of, setups_of}
+use Rattle.timing.specs.Timing.{counts_for, contradicts, span_at, start_of, setups_of}
 use Rattle.timing.specs.Placing.{Seated, Timed}
 use Rattle.timing.proofs.LinesShop.{shop, counted}
 use Rattle.timing.proofs.EndLaws.{ends_most}
@@ -26,7 +26,7 @@ use Rattle.timing.proofs.PlacingLaws.{starts_length}
 use Rattle.rows.specs.Rows.{Columns, columns_of, Roomy, Written}
 use Rattle.fitness.specs.Fitness.{fitness_of}
 use Rattle.fitness.specs.Ended.{Ended}
-use lib.Ieee.{Float, to_bits, binary64}
+use lib.Ieee.{to_bits, binary64}
 use lib.Dec.{leb}
 use borrow.Author.Tests.{leb-true}
 use Rattle.reader.specs.Answer.{Reading}
@@ -42,9 +42,8 @@ use Rattle.tables.specs.Tabled.{Tabled}
 use Rattle.intake.specs.Intake.{problem_in, genes_in, taken_in, laid_out}
 use Rattle.genes.specs.Indexed.{lines_of_genes}
 use Rattle.intake.proofs.Soundness.{taken_in_means}
-use Rattle.intake.proofs.TakingLaws.{took, refused_so, taken_tabled}
+use Rattle.intake.proofs.TakingLaws.{took, refused_so}
 use Rattle.calls.specs.Asked.{Taken}
-use Rattle.calls.specs.declared.Sheet.{Sheet}
 use Rattle.calls.specs.Outcome.{Outcome, no, answer_of, Leaves}
 use Rattle.calls.specs.Timing.{sheet_of, fitness_on, eight_if, seven_unless, timed_lines, timed_if, timed_plan, seven_if, timed_genes, ordered_if, ordered_plan, six_unless, roomy}
 
@@ -219,7 +218,8 @@ module _ (s : List ℕ) {r : Reading} (e : r ≡ taken_in s) where
 module _ (s : List ℕ) {z : Layout} (e : Ok z ≡ laid_out (taken_in s)) where
   -- A layout with its tables is what the inner functions ask.
   pub laid_asks : {table : List ℕ} → Tabled (problem_of (words s) z) table → Taken s z table
-  laid_asks t = let k = took (taken_in s) e in taken_asks s [] refl k.1 k.0 (taken_tabled s (taken_in s) k.1 t)
+  laid_asks {table} t =
+      let k = took (taken_in s) e in taken_asks s [] refl k.1 k.0 (subst (λ (x : Layout). Tabled (problem_of (words s) x) table) k.1 t)
 
   pub laid_timed : (lines : Lines) → timed_lines (problem_of (words s) z) lines ≡ timed_plan s lines
   laid_timed lines =

@@ -1,13 +1,11 @@
-use mathlib.Core.Path.{sym, ap, ◌∙◌}
+use mathlib.Core.Path.{sym, ◌∙◌}
 use borrow.Author.Tests.{le-leb, lt-leb}
 use lib.Dec.{leb}
 use lib.ListN.{length, take}
 use lib.Seq.{length-take-le}
-use Rattle.words.specs.Words.{words}
-use Rattle.plan.specs.Input.{problem_of}
-use Rattle.lines.specs.Lines.{lines_in, well_formed}
+use Rattle.lines.specs.Lines.{lines_in}
 use Rattle.intake.specs.Intake.{taken_in}
-use Rattle.calls.specs.Timing.{again_if, taken_again}
+use Rattle.calls.specs.Timing.{taken_again}
 use Rattle.calls.proofs.SheetLaws.{laid_asks}
 use Rattle.calls.proofs.AgainLaws.{laid_again, refused_again, too_short, long_enough}
 use Rattle.calls.proofs.again.time_again.Goals as goal

@@ -5,10 +5,8 @@ use lib.ListN.{length, take}
 use lib.Seq.{length-take-le}
 use Rattle.std.proofs.lemmas.Result.{err_from_is_err_and}
 use Rattle.lines.specs.Lines.{lines_in}
-use Rattle.plan.specs.Input.{problem_of}
 use Rattle.calls.specs.Outcome.{answer_of}
-use Rattle.calls.specs.Timing.{timed_lines, timed_plan, roomy}
-use Rattle.graph.proofs.BoolLaws.{denied, granted}
+use Rattle.calls.specs.Timing.{timed_plan, roomy}
 use Rattle.calls.proofs.SheetLaws.{six-answer, six-leaves, roomy_on, roomy_means, laid_asks, laid_timed, refused_timed, leaves_as}
 use Rattle.calls.proofs.timed.time.Goals as goal
 

@@ -1,10 +1,7 @@
 use mathlib.Core.Path.{refl, sym, ap, ◌∙◌}
-use mathlib.Core.List.{[]}
 use Rattle.std.proofs.lemmas.Result.{err_from_is_err_and}
-use Rattle.plan.specs.Input.{problem_of, genes_of}
 use Rattle.calls.specs.Outcome.{answer_of}
-use Rattle.calls.specs.Timing.{timed_genes, ordered_plan, roomy}
-use Rattle.graph.proofs.BoolLaws.{denied, granted}
+use Rattle.calls.specs.Timing.{ordered_plan, roomy}
 use Rattle.calls.proofs.SheetLaws.{six-answer, six-leaves, roomy_on, rows_room, laid_asks, laid_ordered, refused_ordered, leaves_as}
 use Rattle.calls.proofs.timed.time_order.Goals as goal
 
