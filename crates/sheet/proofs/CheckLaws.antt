@@ -1,5 +1,5 @@
 -- The loop over the rows: the last row on each machine so far is known, and the answer to the rows that are left is the answer to all.
-use Rattle.std.specs.Prelude.{None, Option, Some, Ok, Err}
+use Rattle.std.specs.Prelude.{None, Option, Ok, Err}
 use Prim.Native.Nat.{ℕ, zero, suc, ◌+◌, ◌-◌, ◌≤◌, ◌<◌}
 use mathlib.Core.Path.{◌≡◌, refl, sym, ap, ◌∙◌, subst}
 use mathlib.Core.Bool.{Bool, true, false, cond}
@@ -18,7 +18,6 @@ use Rattle.sheet.specs.Sheet.{ok_unless, later_rule, rule_of, broken_rule, rowle
 use Rattle.sheet.specs.declared.Subject.{Subject}
 use Rattle.sheet.specs.declared.Rule.{Rule}
 use Rattle.sheet.specs.declared.Rule.TheVariants.{Known}
-use Rattle.sheet.specs.declared.Verdict.{Verdict}
 use Rattle.sheet.specs.declared.Verdict.TheVariants.{Bad}
 use Rattle.sheet.proofs.SearchLaws.{first-same}
 use Rattle.sheet.proofs.RuleLaws.{broken_is, none_is}

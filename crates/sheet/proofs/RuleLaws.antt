@@ -19,7 +19,7 @@ use Rattle.plan.specs.Accepted.{Accepted, longest}
 use Rattle.tables.specs.Tabled.{task_pred}
 use Rattle.bounds.specs.Bounds.{category_before, setup_of}
 use Rattle.sheet.specs.Rows.{first, first_row, FirstRows}
-use Rattle.sheet.specs.Sheet.{all, ends_by, after_step, after_named, ok_unless, or_else, missing_if}
+use Rattle.sheet.specs.Sheet.{all, ends_by, after_step, after_named, ok_unless, missing_if}
 use Rattle.sheet.specs.declared.Rule.{Rule}
 use Rattle.sheet.specs.declared.Verdict.TheVariants.{Accepted as Approved, Missing}
 use Rattle.sheet.proofs.SearchLaws.{first-yes, first-no}

@@ -40,6 +40,7 @@ abbrev pub is_below : ℕ → ℤ → Bool
 is_below n (pos x) = ltb x n
 is_below n (negsuc x) = false
 
+-- What a row speaks of where both are known.
 abbrev pub row_of : (activity machine : ℕ) → Option Subject
 row_of a m = Some (record { activity = a; machine = m })
 

@@ -66,6 +66,7 @@ after_named p l i a = all (λ b. ends_by l i (first_row p.n p.machines l b)) (p.
 
 -- ---- the first broken rule
 
+-- The number of each rule.
 abbrev pub number_of : Rule → ℕ
 number_of Known = 1
 number_of Once = 2
