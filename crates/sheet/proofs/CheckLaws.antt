@@ -1,4 +1,5 @@
 -- The loop over the rows: the last row on each machine so far is known, and the answer to the rows that are left is the answer to all.
+use Rattle.std.specs.Prelude.{None, Option, Ok, Err}
 use Prim.Native.Nat.{ℕ, zero, suc, ◌+◌, ◌-◌, ◌≤◌, ◌<◌}
 use mathlib.Core.Path.{◌≡◌, refl, sym, ap, ◌∙◌, subst}
 use mathlib.Core.Bool.{Bool, true, false, cond}
@@ -12,13 +13,14 @@ use lib.Seq.{get_or-set_same, get_or-set_other}
 use lib.IntN.{ℤ}
 use Rattle.graph.proofs.CountingLaws.{either}
 use Rattle.plan.specs.Problem.{Problem}
-use Rattle.sheet.specs.Rows.{rows_in, first, last, subject_of, is_row_on, first_row, row_before, FirstRows}
-use Rattle.sheet.specs.Sheet.{later_rule, rule_of, broken_rule, rowless, missing_if, bad_or, check_from, check_sheet}
+use Rattle.sheet.specs.Rows.{rows_in, first, last, row_of, subject_of, is_row_on, first_row, row_before, FirstRows}
+use Rattle.sheet.specs.Sheet.{ok_unless, later_rule, rule_of, broken_rule, rowless, missing_if, bad_or, check_from, check_sheet}
 use Rattle.sheet.specs.declared.Subject.{Subject}
-use Rattle.sheet.specs.declared.Subject.TheVariants.{Known, Unknown}
-use Rattle.sheet.specs.declared.Verdict.{Verdict}
+use Rattle.sheet.specs.declared.Rule.{Rule}
+use Rattle.sheet.specs.declared.Rule.TheVariants.{Known}
 use Rattle.sheet.specs.declared.Verdict.TheVariants.{Bad}
 use Rattle.sheet.proofs.SearchLaws.{first-same}
+use Rattle.sheet.proofs.RuleLaws.{broken_is, none_is}
 
 -- ---- the last
 
@@ -38,10 +40,6 @@ pub record Checking (p : Problem) (l : List ℤ) (last_on : List ℕ) (i : ℕ) 
   pub sized : length last_on ≡ 16
   pub at : (k : ℕ) → k < 16 → get_or last_on k 0 ≡ row_before p.n p.machines l k i
   pub left : check_from p l (rows_in l - i) i ≡ check_sheet p l
-
-bad_is : (rule i : ℕ) (rest : Verdict) → (rule ≡ 0 → ⊥) → Bad rule i ≡ bad_or rule i rest
-bad_is zero i rest h = absurd (h refl)
-bad_is (suc rule) i rest h = refl
 
 module _ {p : Problem} {l : List ℤ} where
   pub checks : (count : ℕ) → count ≡ rows_in l → Checking p l (replicate 16 count) 0
@@ -77,17 +75,17 @@ module _ {p : Problem} {l : List ℤ} where
           let z : rows_in l - i ≡ suc (rows_in l - (i + 1)) = omega arith in
           rw (add-one i, ← c.left, z, add-one i)
 
-      pub unknown : subject_of p.n p.machines l i ≡ Unknown → Bad 1 i ≡ check_sheet p l
-      unknown e = ap (λ (x : Subject). bad_or (rule_of p l i x) i (check_from p l (rows_in l - (i + 1)) (i + 1))) (sym e) ∙ step
+      pub unknown : subject_of p.n p.machines l i ≡ None → Bad Known i ≡ check_sheet p l
+      unknown e = ap (λ (x : Option Subject). bad_or (rule_of p l i x) i (check_from p l (rows_in l - (i + 1)) (i + 1))) (sym e) ∙ step
 
-      module _ {a m rule : ℕ} (e : subject_of p.n p.machines l i ≡ Known a m) (k : m < 16) (r : rule ≡ later_rule p l i a m (get_or last_on m 0)) where
-        rule_is : rule ≡ broken_rule p l i
-        rule_is = r ∙ ap (later_rule p l i a m) (c.at m k) ∙ sym (ap (rule_of p l i) e)
+      module _ {a m : ℕ} (e : subject_of p.n p.machines l i ≡ row_of a m) (k : m < 16) where
+        rule_is : {rule : Option Rule} → later_rule p l i a m (get_or last_on m 0) ≡ rule → rule ≡ broken_rule p l i
+        rule_is r = sym r ∙ ap (later_rule p l i a m) (c.at m k) ∙ sym (ap (rule_of p l i) e)
 
-        pub bad : (rule ≡ 0 → ⊥) → Bad rule i ≡ check_sheet p l
-        bad ne =
-            bad_is rule i (check_from p l (rows_in l - (i + 1)) (i + 1)) ne
-            ∙ ap (λ (x : ℕ). bad_or x i (check_from p l (rows_in l - (i + 1)) (i + 1))) rule_is
+        pub bad : {rule : Rule} → Err rule ≡ ok_unless (later_rule p l i a m (get_or last_on m 0)) → Bad rule i ≡ check_sheet p l
+        bad r =
+            ap (λ (x : Option Rule). bad_or x i (check_from p l (rows_in l - (i + 1)) (i + 1)))
+            (rule_is (broken_is (later_rule p l i a m (get_or last_on m 0)) r))
             ∙ step
 
         on_it : row_before p.n p.machines l m (i + 1) ≡ i
@@ -98,13 +96,15 @@ module _ {p : Problem} {l : List ℤ} where
         unfolding last
         on_another x ne = rw (add-one i, e, ne_eqb m x ne)
 
-        pub good : rule ≡ 0 → Checking p l (set last_on m i) (i + 1)
-        good z =
+        pub good : {u : Unit {0}} → Ok u ≡ ok_unless (later_rule p l i a m (get_or last_on m 0)) → Checking p l (set last_on m i) (i + 1)
+        good r =
             record {
               within = omega arith;
               sized = length-set last_on m i ∙ c.sized;
               at = λ x q. either m x (λ w. subst (λ (y : ℕ). get_or (set last_on m i) y 0 ≡ row_before p.n p.machines l y (i + 1)) w
                   (get_or-set_same last_on m i 0 (omega (arith, c.sized)) ∙ sym on_it))
                   (λ ne. get_or-set_other last_on m x i 0 (λ w. ne (sym w)) ∙ c.at x q ∙ sym (on_another x ne));
-              left = ap (λ (x : ℕ). bad_or x i (check_from p l (rows_in l - (i + 1)) (i + 1))) (sym z ∙ rule_is) ∙ step;
+              left = ap (λ (x : Option Rule). bad_or x i (check_from p l (rows_in l - (i + 1)) (i + 1)))
+                  (rule_is (none_is (later_rule p l i a m (get_or last_on m 0)) r))
+                  ∙ step;
             }

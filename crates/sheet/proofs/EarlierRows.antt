@@ -1,5 +1,6 @@
 -- Rules 2, 5 and 7 look at the earlier rows that meet rule 1. For a row that an answer may be about, those are all the earlier rows, since none
 -- of them is bad: rule 2 says that no earlier row has this activity, and the line predecessor is the last earlier row on this machine.
+use Rattle.std.specs.Prelude.{None}
 use Prim.Native.Nat.{ℕ, ◌<◌}
 use mathlib.Core.Path.{◌≡◌, refl, sym, ap, ◌∙◌}
 use mathlib.Core.Bool.{true, false}
@@ -10,9 +11,8 @@ use borrow.Author.Tests.{eqb-true, eq-eqb, ne_eqb}
 use lib.IntN.{ℤ, pos}
 use Rattle.words.specs.Signed.{clamp}
 use Rattle.plan.specs.Problem.{Problem}
-use Rattle.sheet.specs.Rows.{rows_in, activity_in, machine_in, subject_of, is_of, is_on, is_row, is_row_on, first_row, row_before}
+use Rattle.sheet.specs.Rows.{rows_in, activity_in, machine_in, row_of, subject_of, is_of, is_on, is_row, is_row_on, first_row, row_before}
 use Rattle.sheet.specs.Sheet.{is_first, broken_rule}
-use Rattle.sheet.specs.declared.Subject.TheVariants.{Known}
 use Rattle.sheet.proofs.SearchLaws.{Meets, known_meets}
 use Rattle.sheet.proofs.FindLaws.{opposite, first_is, first_cases, last_none, last_is}
 use Rattle.sheet.proofs.KeptLaws.{good_known}
@@ -20,14 +20,14 @@ use Rattle.sheet.proofs.KeptLaws.{good_known}
 same_number : {x y : ℤ} {a b : ℕ} → x ≡ pos a → y ≡ pos b → x ≡ y → a ≡ b
 same_number p q e = cc
 
-module _ (p : Problem) (l : List ℤ) (i : ℕ) (good : (j : ℕ) → j < i → broken_rule p l j ≡ 0) (a m : ℕ) (here : subject_of p.n p.machines l i ≡ Known a m) where
+module _ (p : Problem) (l : List ℤ) (i : ℕ) (good : (j : ℕ) → j < i → broken_rule p l j ≡ None) (a m : ℕ) (here : subject_of p.n p.machines l i ≡ row_of a m) where
   meets : Meets p.n p.machines l i a m
   meets = known_meets p.n p.machines l i here
 
   -- ---- whether an earlier row is of this activity, and on this machine
 
   module _ (j : ℕ) (h : j < i) where
-    known : subject_of p.n p.machines l j ≡ Known (clamp (activity_in l j)) (clamp (machine_in l j))
+    known : subject_of p.n p.machines l j ≡ row_of (clamp (activity_in l j)) (clamp (machine_in l j))
     known = good_known p l j (good j h)
 
     earlier : Meets p.n p.machines l j (clamp (activity_in l j)) (clamp (machine_in l j))

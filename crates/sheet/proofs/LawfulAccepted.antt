@@ -15,11 +15,10 @@ use Rattle.graph.specs.Counting.{count_of}
 use Rattle.graph.specs.Links.{linked}
 use Rattle.plan.specs.Problem.{Problem}
 use Rattle.tables.specs.Tabled.{task_pred}
-use Rattle.sheet.specs.Rows.{rows_in, is_whole, start_in, end_in, subject_of, is_of, is_on, activity_of, is_row, is_row_on, first_row, row_before}
+use Rattle.sheet.specs.Rows.{rows_in, is_whole, start_in, end_in, row_of, subject_of, is_of, is_on, activity_of, is_row, is_row_on, first_row, row_before}
 use Rattle.sheet.specs.Sheet.{all, ends_by, lasts, span_after, rowless, check_sheet}
 use Rattle.sheet.specs.Lawful.{Precedes, span_from, Lawful}
 use Rattle.sheet.specs.declared.Subject.{Subject}
-use Rattle.sheet.specs.declared.Subject.TheVariants.{Known}
 use Rattle.sheet.specs.declared.Verdict.TheVariants.{Accepted}
 use Rattle.sheet.proofs.NumberLaws.{lasts_so}
 use Rattle.sheet.proofs.SearchLaws.{Meets, meets_known, past_unknown}
@@ -54,7 +53,7 @@ module _ (p : Problem) (l : List ℤ) (s : Lawful p l) where
           able = (s.known i h).1;
         }
 
-    known : subject_of p.n p.machines l i ≡ Known (s.activity i) (s.machine i)
+    known : subject_of p.n p.machines l i ≡ row_of (s.activity i) (s.machine i)
     known = meets_known p.n p.machines l i (s.activity i) (s.machine i) meets
 
     on_is : (m : ℕ) → is_row_on p.n p.machines l m i ≡ eqb (s.machine i) m
@@ -86,7 +85,7 @@ module _ (p : Problem) (l : List ℤ) (s : Lawful p l) where
     unfolding Lined
     none_before e none = (
       ap (λ (r : ℕ). lasts l i (span_after p l (s.activity i) (s.machine i) r)) e
-          ∙ ap (λ (x : Subject). lasts l i (span_from p (s.activity i) (s.machine i) (activity_of x))) (past_unknown p.n p.machines l)
+          ∙ ap (λ (x : Option Subject). lasts l i (span_from p (s.activity i) (s.machine i) (activity_of x))) (past_unknown p.n p.machines l)
           ∙ lasting (span_from p (s.activity i) (s.machine i) None)
           (s.lasts-first i h (λ j k. eqb-false (s.machine j) (s.machine i) (sym (on_is j (omega arith) (s.machine i)) ∙ none j k))),
       ap (ends_by l i) e ∙ past_ends l i,
@@ -97,7 +96,7 @@ module _ (p : Problem) (l : List ℤ) (s : Lawful p l) where
     unfolding Lined
     one_before j e k on none = (
       ap (λ (r : ℕ). lasts l i (span_after p l (s.activity i) (s.machine i) r)) e
-          ∙ ap (λ (x : Subject). lasts l i (span_from p (s.activity i) (s.machine i) (activity_of x))) (known j there)
+          ∙ ap (λ (x : Option Subject). lasts l i (span_from p (s.activity i) (s.machine i) (activity_of x))) (known j there)
           ∙ lasting (span_from p (s.activity i) (s.machine i) (Some (s.activity j))) (s.lasts_after j i h precedes),
       ap (ends_by l i) e
           ∙ late_ends l i j (s.end j) (s.start i) (s.reads j there).3 (s.reads i h).2 (s.lined j i h precedes),

@@ -17,11 +17,10 @@ use Rattle.graph.specs.Links.{linked}
 use Rattle.graph.proofs.CountingLaws.{hit-eq}
 use Rattle.plan.specs.Problem.{Problem}
 use Rattle.tables.specs.Tabled.{task_pred}
-use Rattle.sheet.specs.Rows.{rows_in, activity_in, machine_in, start_in, end_in, subject_of, is_of, is_on, activity_of, is_row, is_row_on, first_row, row_before}
+use Rattle.sheet.specs.Rows.{rows_in, activity_in, machine_in, start_in, end_in, row_of, subject_of, is_of, is_on, activity_of, is_row, is_row_on, first_row, row_before}
 use Rattle.sheet.specs.Sheet.{ends_by, span_after, rowless, check_sheet}
 use Rattle.sheet.specs.Lawful.{Precedes, span_from, Lawful}
 use Rattle.sheet.specs.declared.Subject.{Subject}
-use Rattle.sheet.specs.declared.Subject.TheVariants.{Known}
 use Rattle.sheet.specs.declared.Verdict.TheVariants.{Accepted}
 use Rattle.sheet.proofs.NumberLaws.{lasts_means}
 use Rattle.sheet.proofs.SearchLaws.{Meets, known_meets, past_unknown}
@@ -49,7 +48,7 @@ module _ (p : Problem) (l : List ℤ) (ok : check_sheet p l ≡ Accepted) where
   end i = clamp (end_in l i)
 
   module _ (i : ℕ) (h : i < rows_in l) where
-    known : subject_of p.n p.machines l i ≡ Known (activity i) (machine i)
+    known : subject_of p.n p.machines l i ≡ row_of (activity i) (machine i)
     unfolding activity machine
     known = good_known p l i (accepted_rows p l ok i h)
 
@@ -130,11 +129,11 @@ module _ (p : Problem) (l : List ℤ) (ok : check_sheet p l ≡ Accepted) where
         lasts-first = λ i h none.
             (times i h).2
             ∙ ap (λ (r : ℕ). start i + span_after p l (activity i) (machine i) r) (before_first i h none)
-            ∙ ap (λ (x : Subject). start i + span_from p (activity i) (machine i) (activity_of x)) (past_unknown p.n p.machines l);
+            ∙ ap (λ (x : Option Subject). start i + span_from p (activity i) (machine i) (activity_of x)) (past_unknown p.n p.machines l);
         lasts_after = λ j i h b.
             (times i h).2
             ∙ ap (λ (r : ℕ). start i + span_after p l (activity i) (machine i) r) (before_is j i h b)
-            ∙ ap (λ (x : Subject). start i + span_from p (activity i) (machine i) (activity_of x)) (known j (omega (arith, b.earlier)));
+            ∙ ap (λ (x : Option Subject). start i + span_from p (activity i) (machine i) (activity_of x)) (known j (omega (arith, b.earlier)));
         released = λ i h. let w : le_z (pos (p.release (activity i))) (pos (start i)) ≡ true = rw (times i h).0 at (kept i h).released in leb-true (p.release (activity i)) (start i) w;
         lined = λ j i h b. ends i j h (omega (arith, b.earlier)) (subst (λ (r : ℕ). ends_by l i r ≡ true) (before_is j i h b) (kept i h).lined);
         stepped = λ j i k h e.

@@ -1,5 +1,5 @@
 -- Laws of the rules: a setup is short, the step before has a lower number, and what is left of a list of predecessors or of activities.
-use Rattle.std.specs.Prelude.{None, Option, Some, ℕ, unwrap_or}
+use Rattle.std.specs.Prelude.{None, Option, Some, ℕ, unwrap_or, Ok, Err}
 use Prim.Native.Nat.{ℕ, zero, suc, ◌+◌, ◌-◌, ◌≤◌, ◌<◌}
 use mathlib.Core.Path.{◌≡◌, refl, sym, ap, ◌∙◌}
 use mathlib.Core.Bool.{Bool, true, false, ◌&&◌}
@@ -19,7 +19,8 @@ use Rattle.plan.specs.Accepted.{Accepted, longest}
 use Rattle.tables.specs.Tabled.{task_pred}
 use Rattle.bounds.specs.Bounds.{category_before, setup_of}
 use Rattle.sheet.specs.Rows.{first, first_row, FirstRows}
-use Rattle.sheet.specs.Sheet.{all, ends_by, after_step, after_named, or_else, missing_if}
+use Rattle.sheet.specs.Sheet.{all, ends_by, after_step, after_named, ok_unless, missing_if}
+use Rattle.sheet.specs.declared.Rule.{Rule}
 use Rattle.sheet.specs.declared.Verdict.TheVariants.{Accepted as Approved, Missing}
 use Rattle.sheet.proofs.SearchLaws.{first-yes, first-no}
 
@@ -97,9 +98,15 @@ module _ (p : Problem) {l : List ℤ} {firsts : List ℕ} (f : FirstRows p.n p.m
       all_same (λ b. ends_by l i (get_or firsts b 0)) (λ b. ends_by l i (first_row p.n p.machines l b)) 128 (p.predecessors a) filled_ends
       (below_more p.n 128 (p.predecessors a) few h)
 
-pub or_first : (x y : ℕ) → (x ≡ 0 → ⊥) → x ≡ or_else x y
-or_first zero y h = absurd (h refl)
-or_first (suc x) y h = refl
+-- ---- the first broken rule, as a function answers it
+
+pub broken_is : {rule : Rule} (x : Option Rule) → Err rule ≡ ok_unless x → x ≡ Some rule
+broken_is None e = let o : ◌≡◌ {A = ℕ} 0 1 = cc in absurd (omega arith)
+broken_is (Some rule) e = cc
+
+pub none_is : {u : Unit {0}} (x : Option Rule) → Ok u ≡ ok_unless x → x ≡ None
+none_is None e = refl
+none_is (Some rule) e = let o : ◌≡◌ {A = ℕ} 0 1 = cc in absurd (omega arith)
 
 -- ---- rule 10
 

@@ -1,4 +1,5 @@
 -- Laws of the first and the last number that pass a test, and of rule 1.
+use Rattle.std.specs.Prelude.{None, Option, Some}
 use Prim.Native.Nat.{ℕ, zero, suc, ◌+◌, ◌-◌, ◌*◌, ◌≤◌, ◌<◌}
 use mathlib.Core.Path.{◌≡◌, refl, sym, ap, ◌∙◌, subst}
 use mathlib.Core.Bool.{Bool, true, false, cond, ◌&&◌}
@@ -12,9 +13,8 @@ use Rattle.words.specs.Signed.{clamp}
 use Rattle.graph.specs.Counting.{Below}
 use Rattle.graph.specs.Links.{linked}
 use Rattle.graph.proofs.CountingLaws.{either}
-use Rattle.sheet.specs.Rows.{first, rows_in, is_whole, is_below, activity_in, machine_in, subject_if, subject_of, is_of, activity_of, is_row, FirstRows}
+use Rattle.sheet.specs.Rows.{first, rows_in, is_whole, is_below, activity_in, machine_in, row_of, subject_if, subject_of, is_of, activity_of, is_row, FirstRows}
 use Rattle.sheet.specs.declared.Subject.{Subject}
-use Rattle.sheet.specs.declared.Subject.TheVariants.{Known, Unknown}
 
 -- ---- the first
 
@@ -61,12 +61,17 @@ pub record Meets (n R : ℕ) (l : List ℤ) (i a m : ℕ) : Type 0 where
   pub known : a < n
   pub able : m < R
 
-if_known : (t : Bool) (x y : ℤ) (a m : ℕ) → subject_if t x y ≡ Known a m → (t ≡ true) × (a ≡ clamp x) × (m ≡ clamp y)
-if_known true x y a m e = (refl, cc, cc)
+one_subject : {s t : Subject} → Some s ≡ Some t → (s.activity ≡ t.activity) × (s.machine ≡ t.machine)
+one_subject {s} {t} e =
+    let o : s ≡ t = cc in
+    (ap (λ (x : Subject). x.activity) o, ap (λ (x : Subject). x.machine) o)
+
+if_known : (t : Bool) (x y : ℤ) (a m : ℕ) → subject_if t x y ≡ row_of a m → (t ≡ true) × (a ≡ clamp x) × (m ≡ clamp y)
+if_known true x y a m e = let o = one_subject e in (refl, sym o.0, sym o.1)
 if_known false x y a m e = let o : ◌≡◌ {A = ℕ} 0 1 = cc in absurd (omega arith)
 
 module _ (n R : ℕ) (l : List ℤ) (i : ℕ) where
-  pub known_meets : {a m : ℕ} → subject_of n R l i ≡ Known a m → Meets n R l i a m
+  pub known_meets : {a m : ℕ} → subject_of n R l i ≡ row_of a m → Meets n R l i a m
   known_meets {a} {m} e =
       let x = activity_in l i in let y = machine_in l i in
       let k = if_known (is_whole l i && (is_below n x && is_below R y)) x y a m e in
@@ -82,22 +87,22 @@ module _ (n R : ℕ) (l : List ℤ) (i : ℕ) where
       }
 
 -- A row past the last has nothing known.
-pub past_unknown : (n R : ℕ) (l : List ℤ) → subject_of n R l (rows_in l) ≡ Unknown
+pub past_unknown : (n R : ℕ) (l : List ℤ) → subject_of n R l (rows_in l) ≡ None
 past_unknown n R l = rw (le-ltb (4 * rows_in l + 3) (length l) (omega arith))
 
-pub meets_known : (n R : ℕ) (l : List ℤ) (i a m : ℕ) → Meets n R l i a m → subject_of n R l i ≡ Known a m
+pub meets_known : (n R : ℕ) (l : List ℤ) (i a m : ℕ) → Meets n R l i a m → subject_of n R l i ≡ row_of a m
 meets_known n R l i a m w =
     rw (lt-ltb (4 * i + 3) (length l) w.whole, w.activity, w.machine, lt-ltb a n w.known, lt-ltb m R w.able)
 
 -- Which activity and machine a row is of.
 module _ (n R : ℕ) (l : List ℤ) (i : ℕ) where
-  pub row_none : (b : ℕ) → subject_of n R l i ≡ Unknown → is_row n R l b i ≡ false
+  pub row_none : (b : ℕ) → subject_of n R l i ≡ None → is_row n R l b i ≡ false
   row_none b e = ap (is_of b) e
 
-  pub row_same : {a m : ℕ} → subject_of n R l i ≡ Known a m → is_row n R l a i ≡ true
+  pub row_same : {a m : ℕ} → subject_of n R l i ≡ row_of a m → is_row n R l a i ≡ true
   row_same {a} e = ap (is_of a) e ∙ eq-eqb a a refl
 
-  pub row_other : {a m : ℕ} (b : ℕ) → subject_of n R l i ≡ Known a m → (a ≡ b → ⊥) → is_row n R l b i ≡ false
+  pub row_other : {a m : ℕ} (b : ℕ) → subject_of n R l i ≡ row_of a m → (a ≡ b → ⊥) → is_row n R l b i ≡ false
   row_other {a} b e ne = ap (is_of b) e ∙ ne_eqb a b ne
 
 -- ---- the first rows, filled from the last row to the first
@@ -125,11 +130,11 @@ module _ {n R : ℕ} {l : List ℤ} where
       passed b k e =
           f.at b k ∙ sym (first-no (is_row n R l b) (rows_in l - (i - 1)) (rows_in l - i) i (i - 1) (omega (arith, f.within)) (omega arith) e)
 
-      pub skipped : subject_of n R l (i - 1) ≡ Unknown → Filling n R l firsts (i - 1)
+      pub skipped : subject_of n R l (i - 1) ≡ None → Filling n R l firsts (i - 1)
       skipped e =
           record { within = omega (arith, f.within); sized = f.sized; at = λ b k. passed b k (row_none n R l (i - 1) b e) }
 
-      pub filled_in : {a m : ℕ} → subject_of n R l (i - 1) ≡ Known a m → a < 128 → Filling n R l (set firsts a (i - 1)) (i - 1)
+      pub filled_in : {a m : ℕ} → subject_of n R l (i - 1) ≡ row_of a m → a < 128 → Filling n R l (set firsts a (i - 1)) (i - 1)
       filled_in {a} {m} e q =
           record {
             within = omega (arith, f.within);
@@ -145,10 +150,10 @@ module _ {n R : ℕ} {l : List ℤ} where
 
 -- ---- a row's link, and its first rows' bound
 
-below_linked : (n R : ℕ) (l : List ℤ) (r : ℕ) (x : Subject) → subject_of n R l r ≡ x → Below n (linked (activity_of x))
+below_linked : (n R : ℕ) (l : List ℤ) (r : ℕ) (x : Option Subject) → subject_of n R l r ≡ x → Below n (linked (activity_of x))
 unfolding Below
-below_linked n R l r (Known a m) e = ((known_meets n R l r e).known, tt)
-below_linked n R l r Unknown e = tt
+below_linked n R l r (Some s) e = ((known_meets n R l r e).known, tt)
+below_linked n R l r None e = tt
 
 pub linked_below : (n R : ℕ) (l : List ℤ) (r : ℕ) → Below n (linked (activity_of (subject_of n R l r)))
 linked_below n R l r = below_linked n R l r (subject_of n R l r) refl

@@ -11,6 +11,7 @@ use lib.Ieee.{fin}
 use Rattle.plan.specs.Problem.{Problem}
 use Rattle.sheet.specs.Rows.{first, last}
 use Rattle.sheet.specs.Sheet.{all, check_from, check_sheet}
+use Rattle.sheet.specs.declared.Rule.TheVariants.{Known, Once, Start, End, Span, Release, Line, Step, Named}
 use Rattle.sheet.specs.declared.Verdict.TheVariants.{Accepted, Bad, Missing}
 
 -- Plan S: two tasks of two activities, which take 3 4 1 5 on either machine. Beyond it the tasks have different categories, activity 2 a
@@ -58,65 +59,65 @@ plan_s_lem = refl
 
 -- 1: activity 4; machine 2; activity -1; a last row without its end, after rows that are all good
 pub unknown :
-    (check_sheet (plan 0 []) (row 2 0 0 1 ++ row 4 1 1 6) ≡ Bad 1 1)
-    × (check_sheet (plan 0 []) (row 2 2 0 1) ≡ Bad 1 0)
-    × (check_sheet (plan 0 []) (negsuc 0 ∷ pos 0 ∷ pos 0 ∷ pos 0 ∷ []) ≡ Bad 1 0)
-    × (check_sheet (plan 0 []) (improved ++ (pos 0 ∷ pos 0 ∷ pos 0 ∷ [])) ≡ Bad 1 4)
+    (check_sheet (plan 0 []) (row 2 0 0 1 ++ row 4 1 1 6) ≡ Bad Known 1)
+    × (check_sheet (plan 0 []) (row 2 2 0 1) ≡ Bad Known 0)
+    × (check_sheet (plan 0 []) (negsuc 0 ∷ pos 0 ∷ pos 0 ∷ pos 0 ∷ []) ≡ Bad Known 0)
+    × (check_sheet (plan 0 []) (improved ++ (pos 0 ∷ pos 0 ∷ pos 0 ∷ [])) ≡ Bad Known 4)
 unfolding first last all check_from
 unknown = (refl, refl, refl, refl)
 
 -- 2: a second row of activity 2
-pub twice : check_sheet (plan 0 []) (row 2 0 0 1 ++ row 2 1 1 2) ≡ Bad 2 1
+pub twice : check_sheet (plan 0 []) (row 2 0 0 1 ++ row 2 1 1 2) ≡ Bad Once 1
 unfolding first last all check_from
 twice = refl
 
 -- 3: -2^63 is a start
-pub early : check_sheet (plan 0 []) (pos 2 ∷ pos 0 ∷ negsuc 9223372036854775807 ∷ pos 1 ∷ []) ≡ Bad 3 0
+pub early : check_sheet (plan 0 []) (pos 2 ∷ pos 0 ∷ negsuc 9223372036854775807 ∷ pos 1 ∷ []) ≡ Bad Start 0
 unfolding first last all check_from
 early = refl
 
 -- 4: one past the largest end; the largest itself is allowed
 pub late :
-    (check_sheet (plan 0 []) (row 2 0 1101659110911 1101659110912) ≡ Bad 4 0)
+    (check_sheet (plan 0 []) (row 2 0 1101659110911 1101659110912) ≡ Bad End 0)
     × (check_sheet (plan 0 []) (row 2 0 1101659110910 1101659110911) ≡ Missing 0)
 unfolding first last all check_from
 late = (refl, refl)
 
 -- 5: two moments for one; an end that lies so far before its start that their difference is no 64-bit number
 pub long :
-    (check_sheet (plan 0 []) (row 2 0 0 2) ≡ Bad 5 0)
-    × (check_sheet (plan 0 []) (pos 2 ∷ pos 0 ∷ pos 9223372036854775807 ∷ negsuc 9223372036854775807 ∷ []) ≡ Bad 5 0)
+    (check_sheet (plan 0 []) (row 2 0 0 2) ≡ Bad Span 0)
+    × (check_sheet (plan 0 []) (pos 2 ∷ pos 0 ∷ pos 9223372036854775807 ∷ negsuc 9223372036854775807 ∷ []) ≡ Bad Span 0)
 unfolding first last all check_from
 long = (refl, refl)
 
 -- 5: a setup after another category, and one where nothing ran before
 pub set_up :
-    (check_sheet (plan_with 0 [] changes) improved ≡ Bad 5 0)
-    × (check_sheet (plan_with 0 [] changes) (row 2 0 0 8 ++ (row 3 1 8 13 ++ (row 0 0 8 11 ++ row 1 1 13 17))) ≡ Bad 5 3)
+    (check_sheet (plan_with 0 [] changes) improved ≡ Bad Span 0)
+    × (check_sheet (plan_with 0 [] changes) (row 2 0 0 8 ++ (row 3 1 8 13 ++ (row 0 0 8 11 ++ row 1 1 13 17))) ≡ Bad Span 3)
     × (check_sheet (plan_with 0 [] changes) (row 2 0 0 8 ++ (row 3 1 8 13 ++ (row 0 0 8 11 ++ row 1 1 13 19))) ≡ Accepted)
 unfolding first last all check_from
 set_up = (refl, refl, refl)
 
 -- 6: released at 1
-pub unreleased : check_sheet (plan 1 []) improved ≡ Bad 6 0
+pub unreleased : check_sheet (plan 1 []) improved ≡ Bad Release 0
 unfolding first last all check_from
 unreleased = refl
 
 -- 7: activity 0 while 2 is on its machine
-pub overlapping : check_sheet (plan 0 []) (row 2 0 0 1 ++ row 0 0 0 3) ≡ Bad 7 1
+pub overlapping : check_sheet (plan 0 []) (row 2 0 0 1 ++ row 0 0 0 3) ≡ Bad Line 1
 unfolding first last all check_from
 overlapping = refl
 
 -- 8: activity 3 before 2 has ended. The row of 2 stands later and is not checked yet: it may end at -2^63. Without a row it binds nothing.
 pub before_its_step :
-    (check_sheet (plan 0 []) (row 3 1 0 5 ++ row 2 0 0 1) ≡ Bad 8 0)
-    × (check_sheet (plan 0 []) (row 3 1 0 5 ++ (pos 2 ∷ pos 0 ∷ pos 0 ∷ negsuc 9223372036854775807 ∷ [])) ≡ Bad 5 1)
+    (check_sheet (plan 0 []) (row 3 1 0 5 ++ row 2 0 0 1) ≡ Bad Step 0)
+    × (check_sheet (plan 0 []) (row 3 1 0 5 ++ (pos 2 ∷ pos 0 ∷ pos 0 ∷ negsuc 9223372036854775807 ∷ [])) ≡ Bad Span 1)
     × (check_sheet (plan 0 []) (row 3 1 0 5) ≡ Missing 0)
 unfolding first last all check_from
 before_its_step = (refl, refl, refl)
 
 -- 9: activity 3 names 0, which ends at 4
-pub before_one_named : check_sheet (plan 0 (1 ∷ 0 ∷ [])) improved ≡ Bad 9 1
+pub before_one_named : check_sheet (plan 0 (1 ∷ 0 ∷ [])) improved ≡ Bad Named 1
 unfolding first last all check_from
 before_one_named = refl
 

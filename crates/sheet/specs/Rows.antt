@@ -3,7 +3,6 @@
 use Rattle.std.specs.Prelude.{ℕ, zero, suc, ◌+◌, ◌*◌, ◌/◌, ◌<◌, ◌≡◌, Bool, true, false, cond, ◌&&◌, List, eqb, ltb, length, get_or, ℤ, pos, negsuc, Some, None, Option}
 use Rattle.words.specs.Signed.{clamp}
 use Rattle.sheet.specs.declared.Subject.{Subject}
-use Rattle.sheet.specs.declared.Subject.TheVariants.{Known, Unknown}
 
 -- How many rows there are, counted from 0, and whether a row has all its four numbers.
 abbrev pub rows_in : List ℤ → ℕ
@@ -41,27 +40,31 @@ abbrev pub is_below : ℕ → ℤ → Bool
 is_below n (pos x) = ltb x n
 is_below n (negsuc x) = false
 
-abbrev pub subject_if : Bool → ℤ → ℤ → Subject
-subject_if true a m = Known (clamp a) (clamp m)
-subject_if false a m = Unknown
+-- What a row speaks of where both are known.
+abbrev pub row_of : (activity machine : ℕ) → Option Subject
+row_of a m = Some (record { activity = a; machine = m })
+
+abbrev pub subject_if : Bool → ℤ → ℤ → Option Subject
+subject_if true a m = row_of (clamp a) (clamp m)
+subject_if false a m = None
 
 -- The activity and the machine of a row, of n activities and R machines, if both are known.
-abbrev pub subject_of : (n R : ℕ) → List ℤ → ℕ → Subject
+abbrev pub subject_of : (n R : ℕ) → List ℤ → ℕ → Option Subject
 subject_of n R l i = subject_if (is_whole l i && (is_below n (activity_in l i) && is_below R (machine_in l i))) (activity_in l i) (machine_in l i)
 
 -- ---- rows that meet rule 1
 
-abbrev pub is_of : ℕ → Subject → Bool
-is_of b (Known a m) = eqb a b
-is_of b Unknown = false
+abbrev pub is_of : ℕ → Option Subject → Bool
+is_of b (Some s) = eqb s.activity b
+is_of b None = false
 
-abbrev pub is_on : ℕ → Subject → Bool
-is_on k (Known a m) = eqb m k
-is_on k Unknown = false
+abbrev pub is_on : ℕ → Option Subject → Bool
+is_on k (Some s) = eqb s.machine k
+is_on k None = false
 
-abbrev pub activity_of : Subject → Option ℕ
-activity_of (Known a m) = Some a
-activity_of Unknown = None
+abbrev pub activity_of : Option Subject → Option ℕ
+activity_of (Some s) = Some s.activity
+activity_of None = None
 
 abbrev pub is_row : (n R : ℕ) → List ℤ → (b i : ℕ) → Bool
 is_row n R l b i = is_of b (subject_of n R l i)

@@ -3,7 +3,7 @@
 -- 9 each predecessor's end. A task or named predecessor is looked for in all rows, its first that meets rule 1; without one it binds nothing.
 -- The answer: the first bad row, its first broken rule; else rule 10, the lowest activity without a row; else accepted.
 -- An earlier row that breaks rule 1 is itself the first bad one, so rules 2, 5 and 7 look only at rows that meet it (proofs/EarlierRows).
-use Rattle.std.specs.Prelude.{ℕ, zero, suc, Bool, true, false, cond, ◌&&◌, List, [], ◌∷◌, eqb, ltb, ℤ, pos, ◌-ℤ◌}
+use Rattle.std.specs.Prelude.{ℕ, zero, suc, Bool, true, false, cond, ◌&&◌, List, [], ◌∷◌, eqb, ltb, ℤ, pos, ◌-ℤ◌, Some, None, Option, Ok, Err, Result}
 use Rattle.std.specs.Int.Signed.{le_z}
 use Rattle.graph.specs.Links.{linked}
 use Rattle.plan.specs.Problem.{Problem}
@@ -11,7 +11,8 @@ use Rattle.tables.specs.Tabled.{task_pred}
 use Rattle.bounds.specs.Bounds.{setup_of, span_of}
 use Rattle.sheet.specs.Rows.{rows_in, is_whole, start_in, end_in, first, subject_of, activity_of, first_row, row_before}
 use Rattle.sheet.specs.declared.Subject.{Subject}
-use Rattle.sheet.specs.declared.Subject.TheVariants.{Known, Unknown}
+use Rattle.sheet.specs.declared.Rule.{Rule}
+use Rattle.sheet.specs.declared.Rule.TheVariants.{Known, Once, Start, End, Span, Release, Line, Step, Named}
 use Rattle.sheet.specs.declared.Verdict.{Verdict}
 use Rattle.sheet.specs.declared.Verdict.TheVariants.{Accepted, Bad, Missing}
 
@@ -65,35 +66,53 @@ after_named p l i a = all (λ b. ends_by l i (first_row p.n p.machines l b)) (p.
 
 -- ---- the first broken rule
 
--- Of rules from number k on, the first that fails; 0 where none does.
-abbrev pub first_broken : ℕ → List Bool → ℕ
-first_broken k [] = 0
-first_broken k (true ∷ l) = first_broken (suc k) l
-first_broken k (false ∷ l) = k
+-- The number of each rule.
+abbrev pub number_of : Rule → ℕ
+number_of Known = 1
+number_of Once = 2
+number_of Start = 3
+number_of End = 4
+number_of Span = 5
+number_of Release = 6
+number_of Line = 7
+number_of Step = 8
+number_of Named = 9
 
-abbrev pub or_else : ℕ → ℕ → ℕ
-or_else zero y = y
-or_else (suc x) y = suc x
+-- Of rules, each with its test, the first whose test fails; None where none does.
+abbrev pub first_broken : List (Rule × Bool) → Option Rule
+first_broken [] = None
+first_broken ((rule, true) ∷ l) = first_broken l
+first_broken ((rule, false) ∷ l) = Some rule
+
+abbrev pub or_else : Option Rule → Option Rule → Option Rule
+or_else None y = y
+or_else (Some rule) y = Some rule
 
 -- Rules 2 to 5 are about the row and its span, rules 6 to 9 about what its start waits for.
-abbrev pub own_rule : Problem → List ℤ → (i a m before : ℕ) → ℕ
+abbrev pub own_rule : Problem → List ℤ → (i a m before : ℕ) → Option Rule
 own_rule p l i a m before =
-    first_broken 2
-    (is_first p l i a ∷ starts_from_zero l i ∷ ends_in_time l i ∷ lasts l i (span_after p l a m before) ∷ [])
+    first_broken
+    ((Once, is_first p l i a) ∷ (Start, starts_from_zero l i) ∷ (End, ends_in_time l i) ∷ (Span, lasts l i (span_after p l a m before)) ∷ [])
 
-abbrev pub waiting_rule : Problem → List ℤ → (i a before : ℕ) → ℕ
+abbrev pub waiting_rule : Problem → List ℤ → (i a before : ℕ) → Option Rule
 waiting_rule p l i a before =
-    first_broken 6 (waits_until l i (p.release a) ∷ ends_by l i before ∷ after_step p l i a ∷ after_named p l i a ∷ [])
+    first_broken
+    ((Release, waits_until l i (p.release a)) ∷ (Line, ends_by l i before) ∷ (Step, after_step p l i a) ∷ (Named, after_named p l i a) ∷ [])
 
-abbrev pub later_rule : Problem → List ℤ → (i a m before : ℕ) → ℕ
+abbrev pub later_rule : Problem → List ℤ → (i a m before : ℕ) → Option Rule
 later_rule p l i a m before = or_else (own_rule p l i a m before) (waiting_rule p l i a before)
 
-abbrev pub rule_of : Problem → List ℤ → ℕ → Subject → ℕ
-rule_of p l i (Known a m) = later_rule p l i a m (row_before p.n p.machines l m i)
-rule_of p l i Unknown = 1
+abbrev pub rule_of : Problem → List ℤ → ℕ → Option Subject → Option Rule
+rule_of p l i (Some s) = later_rule p l i s.activity s.machine (row_before p.n p.machines l s.machine i)
+rule_of p l i None = Some Known
 
-abbrev pub broken_rule : Problem → List ℤ → ℕ → ℕ
+abbrev pub broken_rule : Problem → List ℤ → ℕ → Option Rule
 broken_rule p l i = rule_of p l i (subject_of p.n p.machines l i)
+
+-- The same as a function answers it: Ok where no rule is broken.
+abbrev pub ok_unless : Option Rule → Result (Unit {0}) Rule
+ok_unless None = Ok tt
+ok_unless (Some rule) = Err rule
 
 -- ---- rule 10
 
@@ -107,9 +126,9 @@ missing_if false a = Accepted
 
 -- ---- the answer
 
-abbrev pub bad_or : ℕ → ℕ → Verdict → Verdict
-bad_or zero i verdict = verdict
-bad_or (suc rule) i verdict = Bad (suc rule) i
+abbrev pub bad_or : Option Rule → ℕ → Verdict → Verdict
+bad_or None i verdict = verdict
+bad_or (Some rule) i verdict = Bad rule i
 
 -- The answer to k rows from row i on, of the rows of l.
 unfoldable pub check_from : Problem → List ℤ → (k i : ℕ) → Verdict

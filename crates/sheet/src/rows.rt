@@ -27,26 +27,29 @@ fn is_below(x: i64, n: usize) -> bool
 }
 
 // An activity and a machine, if both are known.
-fn subject(a: i64, m: i64, n: usize, machines: usize) -> Subject
+fn subject(a: i64, m: i64, n: usize, machines: usize) -> Option<Subject>
     ensures { result ≡ subject_if (is_below n a && is_below machines m) a m }
 {
     if !is_below(a, n) {
-        return Subject::Unknown;
+        return None;
     }
     if !is_below(m, machines) {
-        return Subject::Unknown;
+        return None;
     }
-    Subject::Known(a as usize, m as usize)
+    Some(Subject {
+        activity: a as usize,
+        machine: m as usize,
+    })
 }
 
 // Rule 1: what a row speaks of, if it has all its numbers and they are known.
-pub fn subject_of(rows: &[i64], n: usize, machines: usize, i: usize) -> Subject
+pub fn subject_of(rows: &[i64], n: usize, machines: usize, i: usize) -> Option<Subject>
     requires { i < 2 ^ 60 }
     ensures { result ≡ subject_of n machines rows.now i }
 {
     let at = 4 * i;
     if rows.len() <= at + 3 {
-        return Subject::Unknown;
+        return None;
     }
     subject(rows[at], rows[at + 1], n, machines)
 }
@@ -59,10 +62,10 @@ pub fn first_rows(rows: &[i64], n: usize, machines: usize) -> [usize; 128]
     let count = row_count(rows);
     let mut firsts = [count; 128];
     for i in (0..count).rev() {
-        let Subject::Known(a, _) = subject_of(rows, n, machines, i) else {
+        let Some(of) = subject_of(rows, n, machines, i) else {
             continue;
         };
-        firsts[a] = i;
+        firsts[of.activity] = i;
     }
     firsts
 }

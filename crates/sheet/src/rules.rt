@@ -11,9 +11,9 @@ ghost use Rattle.plan.specs.Accepted.{Accepted};
 ghost use Rattle.tables.specs.Found.{Held};
 ghost use Rattle.tables.specs.Tabled.{Tabled, task_pred};
 ghost use Rattle.sheet.specs.Rows.{first, subject_of, activity_of, first_row, FirstRows};
-ghost use Rattle.sheet.specs.Sheet.{all, ends_by, span_after, own_rule, later_rule, missing_if};
+ghost use Rattle.sheet.specs.Sheet.{all, ends_by, span_after, ok_unless, own_rule, later_rule, missing_if};
 
-use crate::{Subject, Verdict, rows};
+use crate::{Rule, Verdict, rows};
 use plan::Layout;
 
 // The activity of a row, where there is a row.
@@ -21,10 +21,8 @@ fn activity_of(rows: &[i64], n: usize, machines: usize, r: usize) -> Option<usiz
     requires { r < 2 ^ 60 }
     ensures { result ≡ activity_of (subject_of n machines rows.now r) }
 {
-    let Subject::Known(a, _) = rows::subject_of(rows, n, machines, r) else {
-        return None;
-    };
-    Some(a)
+    let of = rows::subject_of(rows, n, machines, r)?;
+    Some(of.activity)
 }
 
 // The span that a row must have.
@@ -46,7 +44,7 @@ fn span_after(
     bounds::span(s, z, a, m, setup)
 }
 
-// The first of rules 2 to 5 that the row breaks, or 0. `first` is the first row of its activity.
+// The first of rules 2 to 5 that the row breaks, if it breaks one. `first` is the first row of its activity.
 fn own_rule(
     s: &[u8],
     z: Layout,
@@ -57,25 +55,25 @@ fn own_rule(
     i: usize,
     a: usize,
     m: usize,
-) -> usize
+) -> Result<(), Rule>
     requires placed { Placed z × Accepted (problem_of (words s.now) z) (genes_of (words s.now) z) × Tabled (problem_of (words s.now) z) table.now }
     requires a_lt_activities { (a < z.activities) × (m < z.machines) × (before < 2 ^ 60) × (4 * i + 3 < length rows.now) × (first ≡ first_row z.activities z.machines rows.now a) }
-    ensures { result ≡ own_rule (problem_of (words s.now) z) rows.now i a m before }
+    ensures { result ≡ ok_unless (own_rule (problem_of (words s.now) z) rows.now i a m before) }
 {
     if first != i {
-        return 2;
+        return Err(Rule::Once);
     }
     if !rows::starts_from_zero(rows, i) {
-        return 3;
+        return Err(Rule::Start);
     }
     if !rows::ends_in_time(rows, i) {
-        return 4;
+        return Err(Rule::End);
     }
     let span = span_after(s, z, table, rows, a, m, before);
     if !rows::lasts_for(rows, i, span) {
-        return 5;
+        return Err(Rule::Span);
     }
-    0
+    Ok(())
 }
 
 // Rule 8: the step before in its task. It may have no row.
@@ -102,7 +100,7 @@ fn after_named(rows: &[i64], firsts: &[usize], named: &[usize], i: usize) -> boo
     true
 }
 
-// The first of rules 2 to 9 that the row breaks, or 0.
+// The first of rules 2 to 9 that the row breaks, if it breaks one.
 pub fn later_rule(
     s: &[u8],
     z: Layout,
@@ -113,30 +111,27 @@ pub fn later_rule(
     i: usize,
     a: usize,
     m: usize,
-) -> usize
+) -> Result<(), Rule>
     requires placed { Placed z × Accepted (problem_of (words s.now) z) (genes_of (words s.now) z) × Tabled (problem_of (words s.now) z) table.now }
     requires a_lt_activities { (a < z.activities) × (m < z.machines) × (before < 2 ^ 60) × (4 * i + 3 < length rows.now) × FirstRows z.activities z.machines rows.now firsts.now }
-    ensures { result ≡ later_rule (problem_of (words s.now) z) rows.now i a m before }
+    ensures { result ≡ ok_unless (later_rule (problem_of (words s.now) z) rows.now i a m before) }
 {
-    let own = own_rule(s, z, table, rows, firsts[a], before, i, a, m);
-    if own != 0 {
-        return own;
-    }
+    own_rule(s, z, table, rows, firsts[a], before, i, a, m)?;
     let release = bounds::release_of(table, a);
     if !rows::waits_until(rows, i, release) {
-        return 6;
+        return Err(Rule::Release);
     }
     if !rows::ends_by(rows, i, before) {
-        return 7;
+        return Err(Rule::Line);
     }
     if !after_step(table, rows, firsts, i, a) {
-        return 8;
+        return Err(Rule::Step);
     }
     let named = tables::named_by(table, a);
     if !after_named(rows, firsts, named, i) {
-        return 9;
+        return Err(Rule::Named);
     }
-    0
+    Ok(())
 }
 
 // Rule 10: the lowest of n activities whose first row is the row count.

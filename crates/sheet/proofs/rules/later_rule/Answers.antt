@@ -1,32 +1,34 @@
 use native.Mathlib.Omega.{arith}
 use mathlib.Core.Path.{◌≡◌, sym, ap, ◌∙◌}
-use Prim.Native.Nat.{ℕ}
+use Rattle.std.specs.Prelude.{None}
 use lib.ListN.{get_or}
+use Rattle.std.proofs.lemmas.Result.{err_from_is_err_and}
 use Rattle.words.specs.Words.{words}
 use Rattle.graph.proofs.CountingLaws.{below_more}
 use Rattle.plan.specs.Input.{problem_of}
-use Rattle.sheet.specs.Sheet.{all, ends_by, waits_until, after_step, after_named, own_rule, waiting_rule, or_else}
+use Rattle.sheet.specs.Sheet.{all, ends_by, waits_until, after_step, after_named, own_rule}
 use Rattle.sheet.proofs.SearchLaws.{first_within}
-use Rattle.sheet.proofs.RuleLaws.{step_asked, names_asked, or_first}
+use Rattle.sheet.proofs.RuleLaws.{broken_is, none_is, step_asked, names_asked}
 use Rattle.sheet.proofs.rules.later_rule.Goals as goal
 
-pub own_rule-own-requires : goal.own_rule-own-requires
-own_rule-own-requires c = let p = problem_of (words c.args.s.now) c.args.z in
+pub own_rule-requires : goal.own_rule-requires
+own_rule-requires c = let p = problem_of (words c.args.s.now) c.args.z in
     record { placed = c.requires.placed; a_lt_activities = (c.requires.a_lt_activities.0, c.requires.a_lt_activities.1, c.requires.a_lt_activities.2, c.requires.a_lt_activities.3, c.requires.a_lt_activities.4.at c.args.a (omega (arith, c.requires.a_lt_activities.0, c.requires.placed.1.activities.1))) }
 
-pub returns-then-own-ne0 : goal.returns-then-own-ne0
-returns-then-own-ne0 c = let p = problem_of (words c.args.s.now) c.args.z in
-    or_first c.own_rule-own.result (waiting_rule p c.args.rows.now c.args.i c.args.a c.args.before) c.if-own-ne0.true ∙ ap (λ (x : ℕ). or_else x (waiting_rule p c.args.rows.now c.args.i c.args.a c.args.before)) c.own_rule-own.ensures
+pub returns-in_err-own_rule : goal.returns-in_err-own_rule
+returns-in_err-own_rule c = let p = problem_of (words c.args.s.now) c.args.z in
+    let q = err_from_is_err_and c.from_residual.result c.from_residual.ensures.1 in
+    rw (q.1, q.2, broken_is (own_rule p c.args.rows.now c.args.i c.args.a c.args.m c.args.before) (sym c.in_err-own_rule.was ∙ c.own_rule.ensures))
 
 pub returns-then-not-waits_until : goal.returns-then-not-waits_until
 returns-then-not-waits_until c = let p = problem_of (words c.args.s.now) c.args.z in
-    let e0 : own_rule p c.args.rows.now c.args.i c.args.a c.args.m c.args.before ≡ 0 = sym c.own_rule-own.ensures ∙ c.if-own-ne0.false in
+    let e0 : own_rule p c.args.rows.now c.args.i c.args.a c.args.m c.args.before ≡ None = none_is (own_rule p c.args.rows.now c.args.i c.args.a c.args.m c.args.before) (sym c.in_ok-own_rule.was ∙ c.own_rule.ensures) in
     let e6 : c.waits_until.result ≡ waits_until c.args.rows.now c.args.i (p.release c.args.a) = c.waits_until.ensures ∙ ap (waits_until c.args.rows.now c.args.i) (c.release_of-release.ensures p c.requires.placed.2 c.requires.a_lt_activities.0) in
     rw (e0, sym e6 ∙ c.if-not-waits_until.true)
 
 pub returns-then-not-ends_by : goal.returns-then-not-ends_by
 returns-then-not-ends_by c = let p = problem_of (words c.args.s.now) c.args.z in
-    let e0 : own_rule p c.args.rows.now c.args.i c.args.a c.args.m c.args.before ≡ 0 = sym c.own_rule-own.ensures ∙ c.if-own-ne0.false in
+    let e0 : own_rule p c.args.rows.now c.args.i c.args.a c.args.m c.args.before ≡ None = none_is (own_rule p c.args.rows.now c.args.i c.args.a c.args.m c.args.before) (sym c.in_ok-own_rule.was ∙ c.own_rule.ensures) in
     let e6 : c.waits_until.result ≡ waits_until c.args.rows.now c.args.i (p.release c.args.a) = c.waits_until.ensures ∙ ap (waits_until c.args.rows.now c.args.i) (c.release_of-release.ensures p c.requires.placed.2 c.requires.a_lt_activities.0) in
     rw (e0, sym e6 ∙ c.if-not-waits_until.false, sym c.ends_by.ensures ∙ c.if-not-ends_by.true)
 
@@ -36,7 +38,7 @@ after_step-requires c = let p = problem_of (words c.args.s.now) c.args.z in
 
 pub returns-then-not-after_step : goal.returns-then-not-after_step
 returns-then-not-after_step c = let p = problem_of (words c.args.s.now) c.args.z in
-    let e0 : own_rule p c.args.rows.now c.args.i c.args.a c.args.m c.args.before ≡ 0 = sym c.own_rule-own.ensures ∙ c.if-own-ne0.false in
+    let e0 : own_rule p c.args.rows.now c.args.i c.args.a c.args.m c.args.before ≡ None = none_is (own_rule p c.args.rows.now c.args.i c.args.a c.args.m c.args.before) (sym c.in_ok-own_rule.was ∙ c.own_rule.ensures) in
     let e6 : c.waits_until.result ≡ waits_until c.args.rows.now c.args.i (p.release c.args.a) = c.waits_until.ensures ∙ ap (waits_until c.args.rows.now c.args.i) (c.release_of-release.ensures p c.requires.placed.2 c.requires.a_lt_activities.0) in
     let e8 : c.after_step.result ≡ after_step p c.args.rows.now c.args.i c.args.a = c.after_step.ensures p c.requires.placed.2 c.requires.a_lt_activities.0 ∙ step_asked p c.requires.a_lt_activities.4 c.requires.placed.1.activities.1 c.args.i c.args.a c.requires.a_lt_activities.0 in
     rw (e0, sym e6 ∙ c.if-not-waits_until.false, sym c.ends_by.ensures ∙ c.if-not-ends_by.false, sym e8 ∙ c.if-not-after_step.true)
@@ -47,7 +49,7 @@ after_named-requires c = let p = problem_of (words c.args.s.now) c.args.z in
 
 pub returns-then-not-after_named : goal.returns-then-not-after_named
 returns-then-not-after_named c = let p = problem_of (words c.args.s.now) c.args.z in
-    let e0 : own_rule p c.args.rows.now c.args.i c.args.a c.args.m c.args.before ≡ 0 = sym c.own_rule-own.ensures ∙ c.if-own-ne0.false in
+    let e0 : own_rule p c.args.rows.now c.args.i c.args.a c.args.m c.args.before ≡ None = none_is (own_rule p c.args.rows.now c.args.i c.args.a c.args.m c.args.before) (sym c.in_ok-own_rule.was ∙ c.own_rule.ensures) in
     let e6 : c.waits_until.result ≡ waits_until c.args.rows.now c.args.i (p.release c.args.a) = c.waits_until.ensures ∙ ap (waits_until c.args.rows.now c.args.i) (c.release_of-release.ensures p c.requires.placed.2 c.requires.a_lt_activities.0) in
     let e8 : c.after_step.result ≡ after_step p c.args.rows.now c.args.i c.args.a = c.after_step.ensures p c.requires.placed.2 c.requires.a_lt_activities.0 ∙ step_asked p c.requires.a_lt_activities.4 c.requires.placed.1.activities.1 c.args.i c.args.a c.requires.a_lt_activities.0 in
     let e9 : c.after_named.result ≡ after_named p c.args.rows.now c.args.i c.args.a = c.after_named.ensures ∙ ap (all (λ x. ends_by c.args.rows.now c.args.i (get_or c.args.firsts.now x 0))) (c.named_by-named.ensures p c.requires.placed.2 c.requires.a_lt_activities.0 c.requires.placed.1.activities.1) ∙ names_asked p c.requires.a_lt_activities.4 c.requires.placed.1.activities.1 c.args.i c.args.a (c.requires.placed.1.predecessors c.args.a) in
@@ -55,7 +57,7 @@ returns-then-not-after_named c = let p = problem_of (words c.args.s.now) c.args.
 
 pub returns : goal.returns
 returns c = let p = problem_of (words c.args.s.now) c.args.z in
-    let e0 : own_rule p c.args.rows.now c.args.i c.args.a c.args.m c.args.before ≡ 0 = sym c.own_rule-own.ensures ∙ c.if-own-ne0.false in
+    let e0 : own_rule p c.args.rows.now c.args.i c.args.a c.args.m c.args.before ≡ None = none_is (own_rule p c.args.rows.now c.args.i c.args.a c.args.m c.args.before) (sym c.in_ok-own_rule.was ∙ c.own_rule.ensures) in
     let e6 : c.waits_until.result ≡ waits_until c.args.rows.now c.args.i (p.release c.args.a) = c.waits_until.ensures ∙ ap (waits_until c.args.rows.now c.args.i) (c.release_of-release.ensures p c.requires.placed.2 c.requires.a_lt_activities.0) in
     let e8 : c.after_step.result ≡ after_step p c.args.rows.now c.args.i c.args.a = c.after_step.ensures p c.requires.placed.2 c.requires.a_lt_activities.0 ∙ step_asked p c.requires.a_lt_activities.4 c.requires.placed.1.activities.1 c.args.i c.args.a c.requires.a_lt_activities.0 in
     let e9 : c.after_named.result ≡ after_named p c.args.rows.now c.args.i c.args.a = c.after_named.ensures ∙ ap (all (λ x. ends_by c.args.rows.now c.args.i (get_or c.args.firsts.now x 0))) (c.named_by-named.ensures p c.requires.placed.2 c.requires.a_lt_activities.0 c.requires.placed.1.activities.1) ∙ names_asked p c.requires.a_lt_activities.4 c.requires.placed.1.activities.1 c.args.i c.args.a (c.requires.placed.1.predecessors c.args.a) in
