@@ -12,8 +12,8 @@ use Rattle.moves.specs.Moves.{swap_at, shifted}
 use Rattle.moves.specs.declared.Move.{Move}
 use Rattle.moves.specs.declared.Move.TheVariants.{Swap, Shift}
 use Rattle.moves.proofs.LineLaws.{swap-shifted}
-use Rattle.ranking.specs.declared.Rated.{Rated}
-use Rattle.ranking.specs.declared.Three.{Three}
+use Rattle.ranking.specs.declared.held.Rated.{Rated}
+use Rattle.ranking.specs.declared.held.Three.{Three}
 use Rattle.ranking.specs.Ranking.{ranked, with_one, with_all, enters}
 use Rattle.ranking.proofs.KeepLaws.{stays_out}
 use Rattle.ranking.proofs.StreamLaws.{with_append}

@@ -18,8 +18,8 @@ use Rattle.moves.specs.declared.Move.{Move}
 use Rattle.moves.specs.declared.Move.TheVariants.{Reassign}
 use Rattle.moves.proofs.StandingLaws.{reassign_fits}
 use Rattle.ranking.specs.Ranking.{ranked}
-use Rattle.ranking.specs.declared.Rated.{Rated}
-use Rattle.ranking.specs.declared.Three.{Three}
+use Rattle.ranking.specs.declared.held.Rated.{Rated}
+use Rattle.ranking.specs.declared.held.Three.{Three}
 use Rattle.ranking.proofs.EveryLaws.{Every, every_append, every_best, every_held}
 use Rattle.path.specs.Placing.{Placing, start_at, end_at}
 use Rattle.reassign.specs.declared.Leaving.{Leaving}

@@ -15,8 +15,8 @@ use Rattle.moves.specs.declared.Move.TheVariants.{Swap, Shift, Reassign}
 use Rattle.moves.specs.Moves.{Holds, Fits, stretches}
 use Rattle.moves.specs.declared.Pairing.{Pairing}
 use Rattle.moves.proofs.PairLaws.{pair_of'}
-use Rattle.ranking.specs.declared.Rated.{Rated}
-use Rattle.ranking.specs.declared.Three.{Three}
+use Rattle.ranking.specs.declared.held.Rated.{Rated}
+use Rattle.ranking.specs.declared.held.Three.{Three}
 use Rattle.ranking.specs.Ranking.{ranked}
 use Rattle.ranking.proofs.EveryLaws.{Every, every_held}
 use Rattle.timing.specs.Placing.{Rooms}

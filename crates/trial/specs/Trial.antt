@@ -12,8 +12,8 @@ use Rattle.tables.specs.Tabled.{Tabled}
 use Rattle.lines.specs.Lines.{Lines}
 use Rattle.moves.specs.declared.Move.{Move}
 use Rattle.moves.specs.Moves.{applied, Fits, Within}
-use Rattle.ranking.specs.declared.Rated.{Rated}
-use Rattle.ranking.specs.declared.Three.{Three}
+use Rattle.ranking.specs.declared.held.Rated.{Rated}
+use Rattle.ranking.specs.declared.held.Three.{Three}
 use Rattle.ranking.specs.Ranking.{ranked}
 use Rattle.fitness.specs.Fitness.{fitness_of}
 use Rattle.timing.specs.Timing.{contradicts, ends_of}

@@ -9,7 +9,7 @@ use Rattle.graph.proofs.CountingLaws.{below_at}
 use Rattle.plan.specs.Problem.{Problem}
 use Rattle.lines.specs.Lines.{lines_in}
 use Rattle.ranking.specs.Ranking.{ranked, with_one}
-use Rattle.ranking.specs.declared.Rated.{Rated}
+use Rattle.ranking.specs.declared.held.Rated.{Rated}
 use Rattle.ranking.proofs.KeepLaws.{stays_out}
 use Rattle.reassign.specs.Reassignments.{rated_at}
 use Rattle.reassign.specs.Reassigning.{unordered, Able}
