@@ -54,10 +54,7 @@ pub fn put_hex(line: &mut [u8], at: usize, v: u64) -> usize
 fn has_room(room: usize, at: usize, n: usize) -> bool
     ensures { result ≡ fits room at n }
 {
-    if room < n {
-        return false;
-    }
-    at <= room - n
+    n <= room && at <= room - n
 }
 
 // How many decimal digits v has.
