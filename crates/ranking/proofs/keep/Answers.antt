@@ -1,6 +1,5 @@
 -- `ranking::keep` meets its contract. Assumes nothing.
 use mathlib.Core.Path.{sym, ◌∙◌}
-use native.Mathlib.Omega.{arith}
 use Rattle.ranking.proofs.KeepLaws.{goes_first, goes_second, goes_third, falls_out}
 use Rattle.ranking.proofs.keep.Goals as goal
 
