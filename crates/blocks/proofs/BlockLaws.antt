@@ -12,7 +12,7 @@ use Rattle.plan.specs.Problem.{Problem}
 use Rattle.lines.specs.Lines.{Lines}
 use Rattle.moves.specs.Moves.{line_of}
 use Rattle.moves.specs.declared.Move.{Move}
-use Rattle.ranking.specs.declared.Rated.{Rated}
+use Rattle.ranking.specs.declared.held.Rated.{Rated}
 use Rattle.ranking.specs.Ranking.{with_all}
 use Rattle.ranking.proofs.StreamLaws.{with_append}
 use Rattle.path.specs.Placing.{placed}

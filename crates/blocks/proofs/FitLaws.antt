@@ -13,7 +13,7 @@ use Rattle.lines.specs.Lines.{Lines, machine_of, position_of}
 use Rattle.moves.specs.Moves.{line_of, Fits, Within}
 use Rattle.moves.specs.declared.Move.{Move}
 use Rattle.moves.specs.declared.Move.TheVariants.{Swap}
-use Rattle.ranking.specs.declared.Rated.{Rated}
+use Rattle.ranking.specs.declared.held.Rated.{Rated}
 use Rattle.ranking.specs.Ranking.{precedes, insert_by, sort_into}
 use Rattle.path.specs.Placing.{Placing}
 use Rattle.blocks.specs.BlockMoves.{block, closed, goes_on', begun, blocks_from, blocks, block_moves}

@@ -12,8 +12,8 @@ use Rattle.moves.specs.Moves.{swap_at, shifted}
 use Rattle.moves.specs.declared.Move.{Move}
 use Rattle.moves.specs.declared.Move.TheVariants.{Swap, Shift}
 use Rattle.moves.proofs.LineLaws.{swap-shifted}
-use Rattle.ranking.specs.declared.Rated.{Rated}
-use Rattle.ranking.specs.declared.Three.{Three}
+use Rattle.ranking.specs.declared.held.Rated.{Rated}
+use Rattle.ranking.specs.declared.held.Three.{Three}
 use Rattle.ranking.specs.Ranking.{ranked, with_one, with_all, enters}
 use Rattle.ranking.proofs.KeepLaws.{stays_out}
 use Rattle.ranking.proofs.StreamLaws.{with_append}
@@ -63,13 +63,13 @@ module _ {all : Bool} {m : ℕ} {table starts ends tail line : List ℕ} where
       record { kept = λ p lines order r. k ∙ ap (λ (x : Rated). with_one x before) (e p lines order r) }
 
   -- .. that does not enter.
-  pub offers_out : (move : Move) (three : Three) (length : ℕ) → three.count ≤ 3 → enters three length 0 ≡ false
+  pub offers_out : (move : Move) (three : Three) (length : ℕ) → enters three length 0 ≡ false
       → ((p : Problem) (lines : Lines) (order : List ℕ) → Rateable p lines m table starts ends tail line
       → record { length = length; time = 0; made = move } ≡ offered all p lines (placed order starts ends) tail move)
       → Offers all m (move ∷ []) table starts ends tail line (ranked three) (ranked three)
-  offers_out move three length few out e =
+  offers_out move three length out e =
       let rated : Rated = record { length = length; time = 0; made = move } in
-      offers_one move rated e (stays_out three rated few out)
+      offers_one move rated e (stays_out three rated out)
 
   pub shifts_begin : (to from : ℕ) {held : List Rated} → Offers all m (shifts m to from (from - from)) table starts ends tail line held held
   unfolding shifts

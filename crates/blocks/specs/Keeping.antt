@@ -3,7 +3,7 @@ use Rattle.std.specs.Prelude.{ℕ, cond, List, map, leb, length}
 use Rattle.plan.specs.Problem.{Problem}
 use Rattle.lines.specs.Lines.{Lines}
 use Rattle.moves.specs.declared.Move.{Move}
-use Rattle.ranking.specs.declared.Rated.{Rated}
+use Rattle.ranking.specs.declared.held.Rated.{Rated}
 use Rattle.ranking.specs.Ranking.{best_three}
 use Rattle.path.specs.Placing.{Placing}
 use Rattle.blocks.specs.Estimates.{estimate}

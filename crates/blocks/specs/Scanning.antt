@@ -6,7 +6,7 @@ use Rattle.lines.specs.Lines.{Lines, machine_of, position_of}
 use Rattle.moves.specs.Moves.{line_of}
 use Rattle.moves.specs.declared.Move.{Move}
 use Rattle.moves.specs.declared.Move.TheVariants.{Swap}
-use Rattle.ranking.specs.declared.Rated.{Rated}
+use Rattle.ranking.specs.declared.held.Rated.{Rated}
 use Rattle.ranking.specs.Ranking.{with_all}
 use Rattle.path.specs.Placing.{Placing, placed}
 use Rattle.blocks.specs.Estimates.{estimate}

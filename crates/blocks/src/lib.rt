@@ -35,8 +35,8 @@ fn offer_run(
     heads: &mut [u64],
     three: Three,
 ) -> Three
-    requires { Searchable (lines_in cells.now lens.now) table.now starts.now ends.now tail.now path.now machines.now places.now × Holds cells.now lens.now × Run (λ a. get_or machines.now a 0) (λ a. get_or places.now a 0) path.now i r × (128 ≤ length heads.old) × (three.count ≤ 3) }
-    ensures { OffersAll all (own_moves_of_all (closed (block (get_or machines.now (get_or path.now i 0) 0) (get_or places.now (get_or path.now i 0) 0) (get_or places.now (get_or path.now r 0) 0)))) (lines_in cells.now lens.now) table.now starts.now ends.now tail.now path.now machines.now places.now (ranked three) (ranked result) × (result.count ≤ 3) }
+    requires { Searchable (lines_in cells.now lens.now) table.now starts.now ends.now tail.now path.now machines.now places.now × Holds cells.now lens.now × Run (λ a. get_or machines.now a 0) (λ a. get_or places.now a 0) path.now i r × (128 ≤ length heads.old) }
+    ensures { OffersAll all (own_moves_of_all (closed (block (get_or machines.now (get_or path.now i 0) 0) (get_or places.now (get_or path.now i 0) 0) (get_or places.now (get_or path.now r 0) 0)))) (lines_in cells.now lens.now) table.now starts.now ends.now tail.now path.now machines.now places.now (ranked three) (ranked result) }
 {
     let a = path[i];
     let b = path[r];
@@ -78,7 +78,7 @@ fn offer_blocks(
     heads: &mut [u64],
 ) -> Three
     requires { Searchable (lines_in cells.now lens.now) table.now starts.now ends.now tail.now path.now machines.now places.now × Holds cells.now lens.now × (128 ≤ length heads.old) }
-    ensures { OffersAll all (own_moves_of_all (blocks_by (λ a. get_or machines.now a 0) (λ a. get_or places.now a 0) path.now)) (lines_in cells.now lens.now) table.now starts.now ends.now tail.now path.now machines.now places.now [] (ranked result) × (result.count ≤ 3) }
+    ensures { OffersAll all (own_moves_of_all (blocks_by (λ a. get_or machines.now a 0) (λ a. get_or places.now a 0) path.now)) (lines_in cells.now lens.now) table.now starts.now ends.now tail.now path.now machines.now places.now [] (ranked result) }
 {
     let mut three = ranking::none();
     let mut i = 0;
@@ -108,8 +108,7 @@ pub fn block_moves(
     heads: &mut [u64],
 ) -> Three
     requires { Searchable (lines_in cells.now lens.now) table.now starts.now ends.now tail.now path.now machines.now places.now × Holds cells.now lens.now × (128 ≤ length heads.old) }
-    ensures result_value { (p : Problem) (order : List ℕ) → Searched p (lines_in cells.now lens.now) table.now starts.now ends.now tail.now path.now machines.now places.now → ranked result ≡ keep_best_estimated p (lines_in cells.now lens.now) (placed order starts.now ends.now) tail.now (block_moves (lines_in cells.now lens.now) path.now) }
-    ensures count_bound { result.count ≤ 3 }
+    ensures { (p : Problem) (order : List ℕ) → Searched p (lines_in cells.now lens.now) table.now starts.now ends.now tail.now path.now machines.now places.now → ranked result ≡ keep_best_estimated p (lines_in cells.now lens.now) (placed order starts.now ends.now) tail.now (block_moves (lines_in cells.now lens.now) path.now) }
 {
     let count = runs::count_moves(path, machines, places);
     let all = count <= 3;

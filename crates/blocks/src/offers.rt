@@ -52,8 +52,8 @@ fn offer_swap(
     heads: &mut [u64],
     three: Three,
 ) -> Three
-    requires { Estimable table.now starts.now ends.now tail.now line.now × (at + 1 < length line.now) × (length line.now ≤ length heads.old) × (three.count ≤ 3) }
-    ensures { Offers all m (Swap m at ∷ []) table.now starts.now ends.now tail.now line.now (ranked three) (ranked result) × (result.count ≤ 3) }
+    requires { Estimable table.now starts.now ends.now tail.now line.now × (at + 1 < length line.now) × (length line.now ≤ length heads.old) }
+    ensures { Offers all m (Swap m at ∷ []) table.now starts.now ends.now tail.now line.now (ranked three) (ranked result) }
 {
     let length = weigh(all, line, at, at + 1, table, starts, ends, tail, heads);
     if !ranking::enters(three, length, 0) {
@@ -82,8 +82,8 @@ fn offer_shifts(
     heads: &mut [u64],
     three: Three,
 ) -> Three
-    requires { Estimable table.now starts.now ends.now tail.now line.now × (to < length line.now) × (from ≤ end) × (end ≤ length line.now) × (length line.now ≤ length heads.old) × (three.count ≤ 3) }
-    ensures { Offers all m (shifts m to from (end - from)) table.now starts.now ends.now tail.now line.now (ranked three) (ranked result) × (result.count ≤ 3) }
+    requires { Estimable table.now starts.now ends.now tail.now line.now × (to < length line.now) × (from ≤ end) × (end ≤ length line.now) × (length line.now ≤ length heads.old) }
+    ensures { Offers all m (shifts m to from (end - from)) table.now starts.now ends.now tail.now line.now (ranked three) (ranked result) }
 {
     let mut best = three;
     for at in from..end {
@@ -115,8 +115,8 @@ fn offer_ends(
     heads: &mut [u64],
     three: Three,
 ) -> Three
-    requires { Estimable table.now starts.now ends.now tail.now line.now × (first + 1 < last) × (last < length line.now) × (length line.now ≤ length heads.old) × (three.count ≤ 3) }
-    ensures { Offers all m (shifts m first (first + 2) (last - first - 1) ++ shifts m last first (last - first - 1)) table.now starts.now ends.now tail.now line.now (ranked three) (ranked result) × (result.count ≤ 3) }
+    requires { Estimable table.now starts.now ends.now tail.now line.now × (first + 1 < last) × (last < length line.now) × (length line.now ≤ length heads.old) }
+    ensures { Offers all m (shifts m first (first + 2) (last - first - 1) ++ shifts m last first (last - first - 1)) table.now starts.now ends.now tail.now line.now (ranked three) (ranked result) }
 {
     let third = first + 2;
     let behind = last + 1;
@@ -143,8 +143,8 @@ pub fn offer_block(
     heads: &mut [u64],
     three: Three,
 ) -> Three
-    requires { Estimable table.now starts.now ends.now tail.now line.now × (first < last) × (last < length line.now) × (length line.now ≤ length heads.old) × (three.count ≤ 3) }
-    ensures { Offers all m (own_moves (block m first last)) table.now starts.now ends.now tail.now line.now (ranked three) (ranked result) × (result.count ≤ 3) }
+    requires { Estimable table.now starts.now ends.now tail.now line.now × (first < last) × (last < length line.now) × (length line.now ≤ length heads.old) }
+    ensures { Offers all m (own_moves (block m first last)) table.now starts.now ends.now tail.now line.now (ranked three) (ranked result) }
 {
     let one = offer_swap(all, m, first, line, table, starts, ends, tail, heads, three);
     let next = first + 1;

@@ -22,7 +22,7 @@ use Rattle.lines.proofs.LineLaws.{lines_below, machine_below, stands_at, pred_be
 use Rattle.moves.specs.Moves.{Fits, Within}
 use Rattle.moves.specs.declared.Move.{Move}
 use Rattle.moves.specs.declared.Move.TheVariants.{Swap, Shift, Reassign}
-use Rattle.ranking.specs.declared.Rated.{Rated}
+use Rattle.ranking.specs.declared.held.Rated.{Rated}
 use Rattle.ranking.proofs.EveryLaws as ranking
 use Rattle.timing.specs.Timing.{counts_for, timing_order, starts_of, ends_of, contradicts}
 use Rattle.timing.specs.Exactly.{Binds, line, task, name}

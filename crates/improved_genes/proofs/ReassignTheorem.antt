@@ -15,7 +15,7 @@ use Rattle.lines.specs.Lines.{Lines, machine_of, WellFormed}
 use Rattle.lines.proofs.LineLaws.{machine_below, stands_at}
 use Rattle.moves.specs.Moves.{line_of, applied}
 use Rattle.moves.proofs.StandingLaws.{reassign_fits}
-use Rattle.ranking.specs.declared.Rated.{Rated}
+use Rattle.ranking.specs.declared.held.Rated.{Rated}
 use Rattle.ranking.proofs.EveryLaws.{Every, every_best, every_at}
 use Rattle.timing.specs.Timing.{contradicts}
 use Rattle.path.specs.Placing.{Placing, start_at, end_at}

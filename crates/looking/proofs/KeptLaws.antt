@@ -5,8 +5,8 @@ use mathlib.Core.List.{List, [], ◌∷◌, ◌++◌}
 use native.Mathlib.Omega.{arith}
 use lib.ListN.{length, get_or, drop, length-drop}
 use lib.Seq.{drop-cons, length-take-le}
-use Rattle.ranking.specs.declared.Rated.{Rated}
-use Rattle.ranking.specs.declared.Three.{Three}
+use Rattle.ranking.specs.declared.held.Rated.{Rated}
+use Rattle.ranking.specs.declared.held.Three.{Three}
 use Rattle.ranking.specs.Ranking.{ranked}
 use Rattle.trial.specs.Trial.{moves_of}
 use Rattle.looking.specs.Rows.{row_of, rows_of, ranks_of}

@@ -8,7 +8,7 @@ use lib.ListN.{length, drop, set, length-append}
 use lib.Seq.{sets, sets-eq, length-sets}
 use Rattle.moves.specs.declared.Move.{Move}
 use Rattle.moves.specs.declared.Move.TheVariants.{Swap, Shift, Reassign}
-use Rattle.ranking.specs.declared.Rated.{Rated}
+use Rattle.ranking.specs.declared.held.Rated.{Rated}
 use Rattle.rows.specs.Rows.{over}
 use Rattle.looking.specs.Rows.{row_of, rows_of, ranks_of, Put}
 

@@ -9,8 +9,8 @@ use Rattle.std.specs.Prelude.{Ok}
 use Rattle.plan.specs.Problem.{Problem}
 use Rattle.lines.specs.Lines.{Lines}
 use Rattle.moves.specs.declared.Move.{Move}
-use Rattle.ranking.specs.declared.Rated.{Rated}
-use Rattle.ranking.specs.declared.Three.{Three}
+use Rattle.ranking.specs.declared.held.Rated.{Rated}
+use Rattle.ranking.specs.declared.held.Three.{Three}
 use Rattle.ranking.specs.Ranking.{ranked}
 use Rattle.rows.specs.Rows.{over}
 use Rattle.blocks.specs.BlockMoves.{blocks_by, block_moves}

@@ -10,7 +10,7 @@ use Rattle.plan.specs.Problem.{Problem}
 use Rattle.intake.specs.Intake.{problem_in, taken_in}
 use Rattle.lines.specs.Lines.{Lines, lines_in, well_formed}
 use Rattle.moves.specs.declared.Move.{Move}
-use Rattle.ranking.specs.declared.Rated.{Rated}
+use Rattle.ranking.specs.declared.held.Rated.{Rated}
 use Rattle.rows.specs.Rows.{over}
 use Rattle.timing.specs.Timing.{contradicts}
 use Rattle.calls.specs.Timing.{fitness_on}

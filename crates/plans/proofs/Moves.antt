@@ -13,7 +13,7 @@ use Rattle.moves.specs.Moves.{pair_of, two}
 use Rattle.moves.specs.declared.Move.{Move}
 use Rattle.moves.specs.declared.Move.TheVariants.{Swap, Shift, Reassign}
 use Rattle.moves.specs.declared.Pairing.{Pairing}
-use Rattle.ranking.specs.declared.Rated.{Rated}
+use Rattle.ranking.specs.declared.held.Rated.{Rated}
 use Rattle.path.specs.Placing.{Placing}
 use Rattle.reassign.specs.Reassignments.{leading, first_place, last_place, one_if}
 use Rattle.blocks.specs.BlockMoves.{block, blocks, blocks_from, block_moves, shifts, moves_of_all, is_among, once}

@@ -1,12 +1,12 @@
 -- What is so of every move offered is so of every move kept. Assumes nothing.
 use mathlib.Core.Bool.{Bool, true, false, cond}
 use mathlib.Core.List.{List, [], ◌∷◌, ◌++◌}
-use Prim.Native.Nat.{ℕ, zero, suc, ◌≤◌, ◌<◌}
+use Prim.Native.Nat.{ℕ, zero, suc, ◌<◌}
 use native.Mathlib.Omega.{arith}
 use lib.ListN.{length, get_or, take}
 use lib.Seq.{length-take-le}
-use Rattle.ranking.specs.declared.Rated.{Rated}
-use Rattle.ranking.specs.declared.Three.{Three}
+use Rattle.ranking.specs.declared.held.Rated.{Rated}
+use Rattle.ranking.specs.declared.held.Three.{Three}
 use Rattle.ranking.specs.Ranking.{precedes, insert_by, sort_into, best_three, ranked}
 
 unfoldable pub Every : {A : Type 0} → (A → Type 0) → List A → Type 0
@@ -51,6 +51,6 @@ module _ (P : Rated → Type 0) where
   every_best l e = every_take P 3 (sort_into precedes [] l) (every_sort P precedes [] l tt e)
 
   -- .. of the k-th that is held
-  pub every_held : (three : Three) → three.count ≤ 3 → Every P (ranked three) → (k : ℕ) → k < three.count → (other : Rated) → P (get_or (ranked three) k other)
-  every_held three few e k h other =
-      every_at P (ranked three) k other e (omega (arith, length-take-le three.count (three.first ∷ three.second ∷ three.third ∷ []) few))
+  pub every_held : (three : Three) → Every P (ranked three) → (k : ℕ) → k < three.count → (other : Rated) → P (get_or (ranked three) k other)
+  every_held three e k h other =
+      every_at P (ranked three) k other e (omega (arith, length-take-le three.count (three.first ∷ three.second ∷ three.third ∷ []) three.few))

@@ -5,8 +5,8 @@ use mathlib.Core.List.{[], ◌∷◌}
 use Prim.Native.Nat.{ℕ, zero, suc, ◌≤◌, ◌<◌, min}
 use native.Mathlib.Omega.{arith}
 use lib.ListN.{take, get_or}
-use Rattle.ranking.specs.declared.Rated.{Rated}
-use Rattle.ranking.specs.declared.Three.{Three}
+use Rattle.ranking.specs.declared.held.Rated.{Rated}
+use Rattle.ranking.specs.declared.held.Three.{Three}
 use Rattle.ranking.specs.Ranking.{insert_by, ranked, with_one, goes_at, enters}
 
 neither : (a b : Bool) → (a || b) ≡ false → (a ≡ false) × (b ≡ false)
@@ -52,11 +52,11 @@ module _ (x a b c : Rated) where
   falls_out (suc (suc (suc (suc n)))) h z y e = absurd (omega arith)
 
 -- what enters nowhere leaves the three as they are
-pub stays_out : (three : Three) (x : Rated) → three.count ≤ 3 → enters three x.length x.time ≡ false → ranked three ≡ with_one x (ranked three)
-stays_out three x few e =
+pub stays_out : (three : Three) (x : Rated) → enters three x.length x.time ≡ false → ranked three ≡ with_one x (ranked three)
+stays_out three x e =
     let f = neither _ _ e in
     let g = neither _ _ f.0 in
-    falls_out x three.first three.second three.third three.count few g.0 g.1 f.1
+    falls_out x three.first three.second three.third three.count three.few g.0 g.1 f.1
 
 module _ (a b c other : Rated) where
   pub first_at : (n k : ℕ) → k < n → k ≡ 0 → a ≡ get_or (take n (a ∷ b ∷ c ∷ [])) k other

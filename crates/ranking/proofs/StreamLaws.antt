@@ -6,7 +6,7 @@ use Prim.Native.Nat.{ℕ, zero, suc}
 use native.Mathlib.Omega.{arith}
 use lib.ListN.{take}
 use lib.Seq.{take-take}
-use Rattle.ranking.specs.declared.Rated.{Rated}
+use Rattle.ranking.specs.declared.held.Rated.{Rated}
 use Rattle.ranking.specs.Ranking.{precedes, insert_by, sort_into, sort_by, best_three, with_one, with_all}
 
 module _ {A : Type 0} (less : A → A → Bool) where

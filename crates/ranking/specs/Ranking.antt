@@ -1,7 +1,7 @@
 -- Document 01, "One search step": of more moves than three keep the three with the smallest rank, ties as given.
 use Rattle.std.specs.Prelude.{ℕ, Bool, cond, ◌&&◌, ◌||◌, List, [], ◌∷◌, eqb, ltb, leb, take}
-use Rattle.ranking.specs.declared.Rated.{Rated}
-use Rattle.ranking.specs.declared.Three.{Three}
+use Rattle.ranking.specs.declared.held.Rated.{Rated}
+use Rattle.ranking.specs.declared.held.Three.{Three}
 
 -- by (length, time)
 abbrev pub ranks_before : (length time : ℕ) → Rated → Bool

@@ -2,28 +2,14 @@
 // no list of them is held or sorted.
 #![tactic(auto)]
 
+mod held;
+
 ghost use Rattle.std.specs.Prelude.{◌≡◌, [], ◌≤◌, ◌<◌, min, suc, get_or};
-ghost use Rattle.ranking.specs.declared.Rated.{Rated};
+ghost use Rattle.ranking.specs.declared.held.Rated.{Rated};
 ghost use Rattle.ranking.specs.Ranking.{ranked, with_one, goes_at, enters};
 
+pub use held::{Rated, Three};
 use moves::Move;
-
-// A move with its rank: the length of the longest way that it leaves, and the time by which equal lengths go.
-#[derive(Clone, Copy)]
-pub struct Rated {
-    pub length: u64,
-    pub time: u64,
-    pub made: Move,
-}
-
-// At most three, the best first. What stands past the count is not held.
-#[derive(Clone, Copy)]
-pub struct Three {
-    pub count: usize,
-    pub first: Rated,
-    pub second: Rated,
-    pub third: Rated,
-}
 
 // What stands past the count.
 fn nothing() -> Rated {
@@ -36,8 +22,7 @@ fn nothing() -> Rated {
 
 // None held yet.
 pub fn none() -> Three
-    ensures result_value { ranked result ≡ [] }
-    ensures count_bound { result.count ≤ 3 }
+    ensures { ranked result ≡ [] }
 {
     Three {
         count: 0,
@@ -73,9 +58,7 @@ fn grown(count: usize) -> usize
 
 // One more move is offered: it stands after those of equal rank, and the fourth falls out.
 pub fn keep(three: Three, rated: Rated) -> Three
-    requires { three.count ≤ 3 }
-    ensures result_value { ranked result ≡ with_one rated (ranked three) }
-    ensures count_bound { result.count ≤ 3 }
+    ensures { ranked result ≡ with_one rated (ranked three) }
 {
     let count = grown(three.count);
     let length = rated.length;
@@ -111,7 +94,7 @@ pub fn keep(three: Three, rated: Rated) -> Three
 
 // The k-th of those held.
 pub fn at(three: Three, k: usize) -> Rated
-    requires { (three.count ≤ 3) × (k < three.count) }
+    requires { k < three.count }
     ensures { (other : Rated) → result ≡ get_or (ranked three) k other }
 {
     if k == 0 {

@@ -18,8 +18,8 @@ use Rattle.moves.specs.declared.Move.{Move}
 use Rattle.moves.specs.declared.Move.TheVariants.{Reassign}
 use Rattle.moves.proofs.StandingLaws.{reassign_fits}
 use Rattle.ranking.specs.Ranking.{ranked}
-use Rattle.ranking.specs.declared.Rated.{Rated}
-use Rattle.ranking.specs.declared.Three.{Three}
+use Rattle.ranking.specs.declared.held.Rated.{Rated}
+use Rattle.ranking.specs.declared.held.Three.{Three}
 use Rattle.ranking.proofs.EveryLaws.{Every, every_append, every_best, every_held}
 use Rattle.path.specs.Placing.{Placing, start_at, end_at}
 use Rattle.reassign.specs.declared.Leaving.{Leaving}
@@ -117,7 +117,7 @@ module _ {p : Problem} {lines : Lines} {path : List ℕ} (sixteen : length lines
   reassigns_within = subst (λ (m : Move). Within p.machines m) (sym r.made) new
 
 -- .. of the k-th that `reassignments` answers
-pub held_reassigns : (p : Problem) (lines : Lines) (s : Placing) (tail path : List ℕ) (three : Three) → three.count ≤ 3 → ranked three ≡ best_reassignments p lines s tail path
+pub held_reassigns : (p : Problem) (lines : Lines) (s : Placing) (tail path : List ℕ) (three : Three) → ranked three ≡ best_reassignments p lines s tail path
     → (k : ℕ) → k < three.count → (other : Rated) → Reassigns p lines path (get_or (ranked three) k other)
-held_reassigns p lines s tail path three few e k h other =
-    every_held (Reassigns p lines path) three few (rw e (best_reassign p lines s tail path)) k h other
+held_reassigns p lines s tail path three e k h other =
+    every_held (Reassigns p lines path) three (rw e (best_reassign p lines s tail path)) k h other

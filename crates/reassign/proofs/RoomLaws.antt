@@ -11,7 +11,7 @@ use Rattle.plan.specs.Problem.{Problem}
 use Rattle.lines.specs.Lines.{Lines, lines_in}
 use Rattle.lines.proofs.StretchLaws.{line_in}
 use Rattle.moves.specs.Moves.{line_of, Holds}
-use Rattle.ranking.specs.declared.Rated.{Rated}
+use Rattle.ranking.specs.declared.held.Rated.{Rated}
 use Rattle.path.specs.Placing.{Placing}
 use Rattle.reassign.specs.declared.Spot.{Spot}
 use Rattle.reassign.specs.declared.Leaving.{Leaving}

@@ -12,7 +12,7 @@ use Rattle.lines.specs.Lines.{Lines, machine_of, position_of}
 use Rattle.moves.specs.Moves.{line_of}
 use Rattle.moves.specs.declared.Move.TheVariants.{Reassign}
 use Rattle.ranking.specs.Ranking.{best_three}
-use Rattle.ranking.specs.declared.Rated.{Rated}
+use Rattle.ranking.specs.declared.held.Rated.{Rated}
 use Rattle.path.specs.Placing.{Placing, start_at, end_at}
 use Rattle.path.specs.Tails.{after}
 use Rattle.reassign.specs.declared.Way.{Way}

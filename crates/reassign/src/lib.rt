@@ -182,9 +182,8 @@ fn offer_candidates(
     three: Three,
 ) -> Three
     requires some_able { SomeAble table.now leaving.activity candidates.now × Holds cells.now lens.now × ((m : ℕ) → Below (length tail.now) (line_of (lines_in cells.now lens.now) m)) }
-    requires reckoned { Reckoned starts.now ends.now tail.now × Ready (length tail.now) leaving × (three.count ≤ 3) }
-    ensures result_value { (p : Problem) → Able p table.now leaving.activity candidates.now → ranked result ≡ with_all (ranked three) (gathered (to_machine p (lines_in cells.now lens.now) (unordered starts.now ends.now) tail.now leaving) candidates.now) }
-    ensures count_bound { result.count ≤ 3 }
+    requires reckoned { Reckoned starts.now ends.now tail.now × Ready (length tail.now) leaving }
+    ensures { (p : Problem) → Able p table.now leaving.activity candidates.now → ranked result ≡ with_all (ranked three) (gathered (to_machine p (lines_in cells.now lens.now) (unordered starts.now ends.now) tail.now leaving) candidates.now) }
 {
     let mut best = three;
     for &to in candidates {
@@ -217,9 +216,8 @@ fn offer_activity(
     a: usize,
     three: Three,
 ) -> Three
-    requires { Holds cells.now lens.now × SomeMovable (lines_in cells.now lens.now) table.now machines.now places.now starts.now ends.now tail.now (a ∷ []) × (three.count ≤ 3) }
-    ensures result_value { (p : Problem) → Movable p (lines_in cells.now lens.now) table.now machines.now places.now starts.now ends.now tail.now (a ∷ []) → ranked result ≡ with_all (ranked three) (of_activity p (lines_in cells.now lens.now) (unordered starts.now ends.now) tail.now a) }
-    ensures count_bound { result.count ≤ 3 }
+    requires { Holds cells.now lens.now × SomeMovable (lines_in cells.now lens.now) table.now machines.now places.now starts.now ends.now tail.now (a ∷ []) }
+    ensures { (p : Problem) → Movable p (lines_in cells.now lens.now) table.now machines.now places.now starts.now ends.now tail.now (a ∷ []) → ranked result ≡ with_all (ranked three) (of_activity p (lines_in cells.now lens.now) (unordered starts.now ends.now) tail.now a) }
 {
     let leaving = leaving_of(table, machines, places, starts, ends, tail, a);
     let candidates = tables::candidates_of(table, a);
@@ -241,8 +239,7 @@ fn best_on_path(
     path: &[usize],
 ) -> Three
     requires { Holds cells.now lens.now × SomeMovable (lines_in cells.now lens.now) table.now machines.now places.now starts.now ends.now tail.now path.now }
-    ensures result_value { (p : Problem) → Movable p (lines_in cells.now lens.now) table.now machines.now places.now starts.now ends.now tail.now path.now → ranked result ≡ best_three (reassignments p (lines_in cells.now lens.now) (unordered starts.now ends.now) tail.now path.now) }
-    ensures count_bound { result.count ≤ 3 }
+    ensures { (p : Problem) → Movable p (lines_in cells.now lens.now) table.now machines.now places.now starts.now ends.now tail.now path.now → ranked result ≡ best_three (reassignments p (lines_in cells.now lens.now) (unordered starts.now ends.now) tail.now path.now) }
 {
     let mut best = ranking::none();
     for &a in path {
@@ -271,8 +268,7 @@ pub fn reassignments(
 ) -> Three
     requires choices_value { (choices ≡ flexible (problem_of (words s.now) z)) × Placed z × Holds cells.now lens.now × Open (problem_of (words s.now) z) (lines_in cells.now lens.now) × Below z.activities path.now }
     requires seen { Seen (problem_of (words s.now) z) (lines_in cells.now lens.now) table.now machines.now places.now starts.now ends.now tail.now }
-    ensures by_index { (order : List ℕ) → ranked result ≡ best_reassignments (problem_of (words s.now) z) (lines_in cells.now lens.now) (placed order starts.now ends.now) tail.now path.now }
-    ensures count_bound { result.count ≤ 3 }
+    ensures { (order : List ℕ) → ranked result ≡ best_reassignments (problem_of (words s.now) z) (lines_in cells.now lens.now) (placed order starts.now ends.now) tail.now path.now }
 {
     if choices {
         return best_on_path(

@@ -13,8 +13,8 @@ use Rattle.lines.specs.Lines.{Lines, WellFormed}
 use Rattle.moves.specs.Moves.{Fits, Within}
 use Rattle.moves.specs.declared.Move.{Move}
 use Rattle.ranking.specs.Ranking.{ranked}
-use Rattle.ranking.specs.declared.Rated.{Rated}
-use Rattle.ranking.specs.declared.Three.{Three}
+use Rattle.ranking.specs.declared.held.Rated.{Rated}
+use Rattle.ranking.specs.declared.held.Three.{Three}
 use Rattle.path.specs.Path.{critical_path}
 use Rattle.path.specs.Tails.{tails}
 use Rattle.blocks.specs.BlockMoves.{block_moves}

@@ -32,7 +32,7 @@ use Rattle.blocks.specs.Scanning.{Searched}
 use Rattle.blocks.proofs.TimedLaws.{timed-searched}
 use Rattle.reassign.specs.Reassigning.{Seen}
 use Rattle.reassign.proofs.MetLaws.{timed-seen}
-use Rattle.ranking.specs.declared.Rated.{Rated}
+use Rattle.ranking.specs.declared.held.Rated.{Rated}
 use Rattle.blocks.specs.BlockMoves.{block_moves}
 use Rattle.blocks.specs.Keeping.{keep_best_estimated}
 use Rattle.reassign.specs.Reassignments.{best_reassignments}

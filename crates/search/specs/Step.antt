@@ -3,7 +3,7 @@ use Rattle.std.specs.Prelude.{List, ◌++◌}
 use Rattle.plan.specs.Problem.{Problem}
 use Rattle.lines.specs.Lines.{Lines}
 use Rattle.moves.specs.declared.Move.{Move}
-use Rattle.ranking.specs.declared.Rated.{Rated}
+use Rattle.ranking.specs.declared.held.Rated.{Rated}
 use Rattle.timing.specs.Timing.{timing_order, starts_of, ends_of}
 use Rattle.path.specs.Placing.{Placing, placed}
 use Rattle.path.specs.Path.{critical_path}

@@ -15,8 +15,8 @@ use Rattle.moves.specs.declared.Move.TheVariants.{Swap, Shift, Reassign}
 use Rattle.moves.specs.Moves.{Holds, Fits, stretches}
 use Rattle.moves.specs.declared.Pairing.{Pairing}
 use Rattle.moves.proofs.PairLaws.{pair_of'}
-use Rattle.ranking.specs.declared.Rated.{Rated}
-use Rattle.ranking.specs.declared.Three.{Three}
+use Rattle.ranking.specs.declared.held.Rated.{Rated}
+use Rattle.ranking.specs.declared.held.Three.{Three}
 use Rattle.ranking.specs.Ranking.{ranked}
 use Rattle.ranking.proofs.EveryLaws.{Every, every_held}
 use Rattle.timing.specs.Placing.{Rooms}
@@ -44,9 +44,9 @@ pairs_after_in h step pairs (Shift m i j) f = ap (λ (x : Pairing). listing_pair
 pairs_after_in h step pairs (Reassign a r i q j) f = refl
 
 -- what is so of every move offered
-pub all_allowed : {R : ℕ} {lines : Lines} (three : Three) → three.count ≤ 3 → Every (λ (x : Rated). Allowed R lines x.made) (ranked three) → AllAllowed R lines three
-all_allowed {R} {lines} three few e =
-    record { few = few; each = λ k h other. every_held (λ (x : Rated). Allowed R lines x.made) three few e k h other }
+pub all_allowed : {R : ℕ} {lines : Lines} (three : Three) → Every (λ (x : Rated). Allowed R lines x.made) (ranked three) → AllAllowed R lines three
+all_allowed {R} {lines} three e =
+    record { each = λ k h other. every_held (λ (x : Rated). Allowed R lines x.made) three e k h other }
 
 -- the k-th is allowed on the same lines
 pub allowed_now : {R k : ℕ} {lines : Lines} {three : Three} (now : Lines) (rated : Rated) → now ≡ lines → AllAllowed R lines three → k < three.count → rated ≡ get_or (ranked three) k rated
@@ -88,13 +88,13 @@ pub record Trying (p : Problem) (n : ℕ) (lines : Lines) (lens : List ℕ) (for
 
 module _ (p : Problem) (lines : Lines) (forbid : Move → Bool) (best : Float) (three : Three) where
   -- the k-th is tried next
-  pub next_tried : (b₀ b b' : Best) (k : ℕ) (rated : Rated) (f : Bool) → three.count ≤ 3 → k < three.count → rated ≡ get_or (ranked three) k rated → f ≡ forbid rated.made
+  pub next_tried : (b₀ b b' : Best) (k : ℕ) (rated : Rated) (f : Bool) → k < three.count → rated ≡ get_or (ranked three) k rated → f ≡ forbid rated.made
       → b' ≡ tried p lines f best rated.made b
       → tried_all p lines forbid best (moves_of (drop k (ranked three))) b ≡ tried_all p lines forbid best (moves_of (ranked three)) b₀
       → tried_all p lines forbid best (moves_of (drop (k + 1) (ranked three))) b' ≡ tried_all p lines forbid best (moves_of (ranked three)) b₀
   unfolding tried_all moves_of
-  next_tried b₀ b b' k rated f few h e g t rest =
-      let long : k < length (ranked three) = omega (arith, length-take-le three.count (three.first ∷ three.second ∷ three.third ∷ []) few) in
+  next_tried b₀ b b' k rated f h e g t rest =
+      let long : k < length (ranked three) = omega (arith, length-take-le three.count (three.first ∷ three.second ∷ three.third ∷ []) three.few) in
       let next : suc k ≡ k + 1 = omega arith in
       let cut : drop k (ranked three) ≡ rated ∷ drop (k + 1) (ranked three) =
       drop-cons (ranked three) k rated long ∙ ap (λ (x : Rated). x ∷ drop (suc k) (ranked three)) (sym e) ∙ ap (λ (i : ℕ). rated ∷ drop i (ranked three)) next in
@@ -108,11 +108,11 @@ module _ (p : Problem) (lines : Lines) (forbid : Move → Bool) (best : Float) (
   none_left (x ∷ l) b e = absurd (omega arith)
 
   -- all are tried
-  pub all-tried : (b₀ b : Best) (k : ℕ) → three.count ≤ 3 → three.count ≤ k
+  pub all-tried : (b₀ b : Best) (k : ℕ) → three.count ≤ k
       → tried_all p lines forbid best (moves_of (drop k (ranked three))) b ≡ tried_all p lines forbid best (moves_of (ranked three)) b₀
       → b ≡ tried_all p lines forbid best (moves_of (ranked three)) b₀
-  all-tried b₀ b k few h rest =
-      none_left (drop k (ranked three)) b (omega (arith, length-drop k (ranked three), length-take-le three.count (three.first ∷ three.second ∷ three.third ∷ []) few))
+  all-tried b₀ b k h rest =
+      none_left (drop k (ranked three)) b (omega (arith, length-drop k (ranked three), length-take-le three.count (three.first ∷ three.second ∷ three.third ∷ []) three.few))
       ∙ rest
 
 -- some after others

@@ -1,6 +1,6 @@
 -- Document 01, "One search step": each move is timed. A forbidden move counts only when its fitness is below the best ever. The strictly least
 -- counts, the first among equals. Moves whose lines contradict do not count.
-use Rattle.std.specs.Prelude.{ℕ, ◌≤◌, ◌<◌, ◌≡◌, Bool, true, false, not, ◌&&◌, ◌||◌, List, [], ◌∷◌, length, get_or, Float}
+use Rattle.std.specs.Prelude.{ℕ, ◌<◌, ◌≡◌, Bool, true, false, not, ◌&&◌, ◌||◌, List, [], ◌∷◌, length, get_or, Float}
 use Rattle.std.specs.Float.Ieee.{lt}
 use Rattle.words.specs.Words.{words}
 use Rattle.plan.specs.Problem.{Problem}
@@ -12,8 +12,8 @@ use Rattle.tables.specs.Tabled.{Tabled}
 use Rattle.lines.specs.Lines.{Lines}
 use Rattle.moves.specs.declared.Move.{Move}
 use Rattle.moves.specs.Moves.{applied, Fits, Within}
-use Rattle.ranking.specs.declared.Rated.{Rated}
-use Rattle.ranking.specs.declared.Three.{Three}
+use Rattle.ranking.specs.declared.held.Rated.{Rated}
+use Rattle.ranking.specs.declared.held.Three.{Three}
 use Rattle.ranking.specs.Ranking.{ranked}
 use Rattle.fitness.specs.Fitness.{fitness_of}
 use Rattle.timing.specs.Timing.{contradicts, ends_of}
@@ -82,7 +82,6 @@ pub record Allowed (R : ℕ) (lines : Lines) (m : Move) : Type 0 where
   pub within : Within R m
 
 pub record AllAllowed (R : ℕ) (lines : Lines) (three : Three) : Type 0 where
-  pub few : three.count ≤ 3
   pub each : (k : ℕ) → k < three.count → (other : Rated) → Allowed R lines (get_or (ranked three) k other).made
 
 -- room for the timing of the best move

@@ -7,4 +7,4 @@ pub count_moves-count-requires : goal.count_moves-count-requires
 count_moves-count-requires c = scanned c.requires.0.searched.pathed c.requires.0.searched.weighed.few
 
 pub returns : goal.returns
-returns c = record { result_value = three_kept c.count_moves-count.result c.count_moves-count.ensures c.offer_blocks.ensures.0; count_bound = c.offer_blocks.ensures.1 }
+returns c = three_kept c.count_moves-count.result c.count_moves-count.ensures c.offer_blocks.ensures

@@ -10,7 +10,6 @@ use Rattle.blocks.proofs.offer_blocks.Given as goal
 abbrev pub invariant-loop-i : goal.invariant-loop-i
 invariant-loop-i l = (l.i ≤ length l.path)
     × (length l.heads ≡ length l.initial.heads)
-    × (l.three.count ≤ 3)
     × Offering l.all (lines_in l.cells l.lens) l.table l.starts l.ends l.tail l.path l.machines l.places (ranked l.three) l.i
 
 abbrev pub decreases-loop-i : goal.decreases-loop-i

@@ -41,7 +41,7 @@ bounds-places-b c = let x = first_known c.requires.0.searched.pathed c.requires.
     omega (arith, c.requires.0.searched.pathed.machined, c.requires.0.searched.pathed.placed)
 
 pub returns-then-last-first : goal.returns-then-last-first
-returns-then-last-first c = (single_offered c.args.all (lines_in c.args.cells.now c.args.lens.now) c.args.table.now c.args.starts.now c.args.ends.now c.args.tail.now c.args.path.now c.args.machines.now c.args.places.now (get_or c.args.machines.now (get_or c.args.path.now c.args.i 0) 0) (get_or c.args.places.now (get_or c.args.path.now c.args.i 0) 0) (get_or c.args.places.now (get_or c.args.path.now c.args.r 0) 0) (ranked c.args.three) c.if-last-first.true, c.requires.4)
+returns-then-last-first c = single_offered c.args.all (lines_in c.args.cells.now c.args.lens.now) c.args.table.now c.args.starts.now c.args.ends.now c.args.tail.now c.args.path.now c.args.machines.now c.args.places.now (get_or c.args.machines.now (get_or c.args.path.now c.args.i 0) 0) (get_or c.args.places.now (get_or c.args.path.now c.args.i 0) 0) (get_or c.args.places.now (get_or c.args.path.now c.args.r 0) 0) (ranked c.args.three) c.if-last-first.true
 
 pub overflow_mul-start : goal.overflow_mul-start
 overflow_mul-start c = let x = first_known c.requires.0.searched.pathed c.requires.2 in
@@ -88,7 +88,7 @@ offer_block-requires c = let x = first_known c.requires.0.searched.pathed c.requ
     let e = part_is c.requires.1 (get_or c.args.machines.now (get_or c.args.path.now c.args.i 0) 0) (machine_known c.requires.0.searched.pathed c.requires.2) (128 * (get_or c.args.machines.now (get_or c.args.path.now c.args.i 0) 0) + get_or c.args.lens.now (get_or c.args.machines.now (get_or c.args.path.now c.args.i 0) 0) 0) refl in
     let long = ap length e in
     let z = last_inside c.requires.0.searched.pathed c.requires.2 in
-    (estimable c.requires.0.searched (get_or c.args.machines.now (get_or c.args.path.now c.args.i 0) 0) _ e, c.if-last-first.false, omega arith, omega (arith, (c.requires.0.searched.pathed.lined (get_or c.args.machines.now (get_or c.args.path.now c.args.i 0) 0)).short, c.requires.3), c.requires.4)
+    (estimable c.requires.0.searched (get_or c.args.machines.now (get_or c.args.path.now c.args.i 0) 0) _ e, c.if-last-first.false, omega arith, omega (arith, (c.requires.0.searched.pathed.lined (get_or c.args.machines.now (get_or c.args.path.now c.args.i 0) 0)).short, c.requires.3))
 
 pub shape_of-heads : goal.shape_of-heads
 shape_of-heads c = c.offer_block.auto.heads
@@ -97,4 +97,4 @@ pub returns : goal.returns
 returns c = let x = first_known c.requires.0.searched.pathed c.requires.2 in
     let y = last_known c.requires.0.searched.pathed c.requires.2 in
     let e = part_is c.requires.1 (get_or c.args.machines.now (get_or c.args.path.now c.args.i 0) 0) (machine_known c.requires.0.searched.pathed c.requires.2) (128 * (get_or c.args.machines.now (get_or c.args.path.now c.args.i 0) 0) + get_or c.args.lens.now (get_or c.args.machines.now (get_or c.args.path.now c.args.i 0) 0) 0) refl in
-    (block-offered c.args.all (lines_in c.args.cells.now c.args.lens.now) c.args.table.now c.args.starts.now c.args.ends.now c.args.tail.now c.args.path.now c.args.machines.now c.args.places.now (get_or c.args.machines.now (get_or c.args.path.now c.args.i 0) 0) (get_or c.args.places.now (get_or c.args.path.now c.args.i 0) 0) (get_or c.args.places.now (get_or c.args.path.now c.args.r 0) 0) c.if-last-first.false e c.offer_block.ensures.0, c.offer_block.ensures.1)
+    block-offered c.args.all (lines_in c.args.cells.now c.args.lens.now) c.args.table.now c.args.starts.now c.args.ends.now c.args.tail.now c.args.path.now c.args.machines.now c.args.places.now (get_or c.args.machines.now (get_or c.args.path.now c.args.i 0) 0) (get_or c.args.places.now (get_or c.args.path.now c.args.i 0) 0) (get_or c.args.places.now (get_or c.args.path.now c.args.r 0) 0) c.if-last-first.false e c.offer_block.ensures

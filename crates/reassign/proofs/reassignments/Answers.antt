@@ -13,7 +13,7 @@ pub best_on_path-requires : goal.best_on_path-requires
 best_on_path-requires c = (c.requires.choices_value.2, record { problem = (problem_of (words c.args.s.now) c.args.z); movable = record { seen = c.requires.seen; opened = c.requires.choices_value.3; known = c.requires.choices_value.4 } })
 
 pub returns-then-choices : goal.returns-then-choices
-returns-then-choices c = record { by_index = λ order. c.best_on_path.ensures.result_value (problem_of (words c.args.s.now) c.args.z) (record { seen = c.requires.seen; opened = c.requires.choices_value.3; known = c.requires.choices_value.4 }) ∙ by_choice (best_three (reassignments (problem_of (words c.args.s.now) c.args.z) (lines_in c.args.cells.now c.args.lens.now) (placed order c.args.starts.now c.args.ends.now) c.args.tail.now c.args.path.now)) c.requires.choices_value.0 c.if-choices.true; count_bound = c.best_on_path.ensures.count_bound }
+returns-then-choices c = λ order. c.best_on_path.ensures (problem_of (words c.args.s.now) c.args.z) (record { seen = c.requires.seen; opened = c.requires.choices_value.3; known = c.requires.choices_value.4 }) ∙ by_choice (best_three (reassignments (problem_of (words c.args.s.now) c.args.z) (lines_in c.args.cells.now c.args.lens.now) (placed order c.args.starts.now c.args.ends.now) c.args.tail.now c.args.path.now)) c.requires.choices_value.0 c.if-choices.true
 
 pub returns : goal.returns
-returns c = record { by_index = λ order. no_choice (best_three (reassignments (problem_of (words c.args.s.now) c.args.z) (lines_in c.args.cells.now c.args.lens.now) (placed order c.args.starts.now c.args.ends.now) c.args.tail.now c.args.path.now)) c.requires.choices_value.0 c.if-choices.false c.none.ensures.result_value; count_bound = c.none.ensures.count_bound }
+returns c = λ order. no_choice (best_three (reassignments (problem_of (words c.args.s.now) c.args.z) (lines_in c.args.cells.now c.args.lens.now) (placed order c.args.starts.now c.args.ends.now) c.args.tail.now c.args.path.now)) c.requires.choices_value.0 c.if-choices.false c.none.ensures

@@ -5,7 +5,7 @@ use Rattle.blocks.proofs.OfferLaws.{offers_then, own_pair, own_more}
 use Rattle.blocks.proofs.offers.offer_block.Goals as goal
 
 pub offer_swap-one-requires : goal.offer_swap-one-requires
-offer_swap-one-requires c = (c.requires.0, omega (arith, c.requires.1, c.requires.2), c.requires.3, c.requires.4)
+offer_swap-one-requires c = (c.requires.0, omega (arith, c.requires.1, c.requires.2), c.requires.3)
 
 pub overflow_add-next : goal.overflow_add-next
 overflow_add-next c = omega (arith, c.requires.1, c.requires.2, c.requires.0.lined.short)
@@ -14,19 +14,19 @@ pub shape_of-heads-then-last-next : goal.shape_of-heads-then-last-next
 shape_of-heads-then-last-next c = c.offer_swap-one.auto.heads
 
 pub returns-then-last-next : goal.returns-then-last-next
-returns-then-last-next c = (rw (own_pair c.args.m c.args.first c.args.last (omega (arith, c.if-last-next.true))) c.offer_swap-one.ensures.0, c.offer_swap-one.ensures.1)
+returns-then-last-next c = rw (own_pair c.args.m c.args.first c.args.last (omega (arith, c.if-last-next.true))) c.offer_swap-one.ensures
 
 pub overflow_sub-at : goal.overflow_sub-at
 overflow_sub-at c = omega (arith, c.requires.1)
 
 pub offer_swap-two-requires : goal.offer_swap-two-requires
-offer_swap-two-requires c = (c.requires.0, omega (arith, c.requires.1, c.requires.2), omega (arith, c.offer_swap-one.auto.heads, c.requires.3), c.offer_swap-one.ensures.1)
+offer_swap-two-requires c = (c.requires.0, omega (arith, c.requires.1, c.requires.2), omega (arith, c.offer_swap-one.auto.heads, c.requires.3))
 
 pub offer_ends-requires : goal.offer_ends-requires
-offer_ends-requires c = (c.requires.0, omega (arith, c.if-last-next.false), c.requires.2, omega (arith, c.offer_swap-two.auto.heads, c.offer_swap-one.auto.heads, c.requires.3), c.offer_swap-two.ensures.1)
+offer_ends-requires c = (c.requires.0, omega (arith, c.if-last-next.false), c.requires.2, omega (arith, c.offer_swap-two.auto.heads, c.offer_swap-one.auto.heads, c.requires.3))
 
 pub shape_of-heads : goal.shape_of-heads
 shape_of-heads c = c.offer_ends.auto.heads ∙ c.offer_swap-two.auto.heads ∙ c.offer_swap-one.auto.heads
 
 pub returns : goal.returns
-returns c = (rw (own_more c.args.m c.args.first c.args.last (omega (arith, c.if-last-next.false))) (offers_then c.offer_swap-one.ensures.0 (offers_then c.offer_swap-two.ensures.0 c.offer_ends.ensures.0)), c.offer_ends.ensures.1)
+returns c = rw (own_more c.args.m c.args.first c.args.last (omega (arith, c.if-last-next.false))) (offers_then c.offer_swap-one.ensures (offers_then c.offer_swap-two.ensures c.offer_ends.ensures))

@@ -9,7 +9,7 @@ pub weigh-length-requires : goal.weigh-length-requires
 weigh-length-requires c = (c.requires.0, omega arith, c.requires.1, c.requires.2)
 
 pub returns-then-not-enters : goal.returns-then-not-enters
-returns-then-not-enters c = (offers_out (Swap c.args.m c.args.at) c.args.three c.weigh-length.result c.requires.3 (sym c.enters.ensures ∙ c.if-not-enters.true) (λ p lines order r. swap_rank c.args.all r order c.args.at c.weigh-length.result c.requires.1 (c.weigh-length.ensures p order r.weighed r.low r.lined)), c.requires.3)
+returns-then-not-enters c = offers_out (Swap c.args.m c.args.at) c.args.three c.weigh-length.result (sym c.enters.ensures ∙ c.if-not-enters.true) (λ p lines order r. swap_rank c.args.all r order c.args.at c.weigh-length.result c.requires.1 (c.weigh-length.ensures p order r.weighed r.low r.lined))
 
 pub returns : goal.returns
-returns c = (offers_one (Swap c.args.m c.args.at) (record { length = c.weigh-length.result; time = 0; made = Swap c.args.m c.args.at }) (λ p lines order r. swap_rank c.args.all r order c.args.at c.weigh-length.result c.requires.1 (c.weigh-length.ensures p order r.weighed r.low r.lined)) c.keep.ensures.result_value, c.keep.ensures.count_bound)
+returns c = offers_one (Swap c.args.m c.args.at) (record { length = c.weigh-length.result; time = 0; made = Swap c.args.m c.args.at }) (λ p lines order r. swap_rank c.args.all r order c.args.at c.weigh-length.result c.requires.1 (c.weigh-length.ensures p order r.weighed r.low r.lined)) c.keep.ensures
