@@ -17,9 +17,7 @@ fn main(rt: HostRuntime) -> io::Result<()> {
     let mut room = [0u8; 16384];
     let text: &mut [u8] = &mut room;
     // So many plans are enough for any run.
-    let mut left: usize = 100_000_000;
-    while 0 < left {
-        left -= 1;
+    for _ in 0..100_000_000usize {
         if !replay_one(&mut input, &mut out, plan, text)? {
             return Ok(());
         }
