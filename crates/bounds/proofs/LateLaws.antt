@@ -7,7 +7,7 @@ use native.Mathlib.Omega.{arith}
 use native.Mathlib.Nat.{not-suc-le-zero}
 use borrow.Author.Tests.{lt-ltb, le-ltb, ltb-true, ltb-false}
 use lib.Dec.{ltb}
-use lib.IntN.{ℤ, pos, negsuc, ◌-ℤ◌}
+use lib.IntN.{pos, negsuc, ◌-ℤ◌}
 use Rattle.words.specs.Signed.{signed_word, clamp}
 use Rattle.words.proofs.SignedLaws.{signed_low, signed_high}
 use Rattle.bounds.specs.Bounds.{tardiness_of}

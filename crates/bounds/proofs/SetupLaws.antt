@@ -1,7 +1,7 @@
 -- Laws of setups: categories are in range, and what a looked-up change comes to.
 use Rattle.std.specs.Prelude.{None, Option, Some, ℕ, unwrap_or}
 use Prim.Native.Nat.{ℕ, ◌≤◌, ◌<◌}
-use mathlib.Core.Path.{◌≡◌, refl, sym, ap, ◌∙◌}
+use mathlib.Core.Path.{◌≡◌, refl, sym, ◌∙◌}
 use native.Mathlib.Omega.{arith}
 use Rattle.graph.specs.Counting.{Below}
 use Rattle.graph.specs.Links.{linked}

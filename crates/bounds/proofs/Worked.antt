@@ -1,6 +1,6 @@
 -- Document 01's P8: completion 10; deadlines 12, 10, -5, none. And deadlines at zero and at both ends of a word.
 use Rattle.std.specs.Prelude.{None, Some}
-use Prim.Native.Nat.{ℕ, ◌+◌, ◌^◌}
+use Prim.Native.Nat.{◌+◌, ◌^◌}
 use mathlib.Core.Path.{◌≡◌, refl}
 use lib.IntN.{pos, negsuc}
 use Rattle.bounds.specs.Bounds.{tardiness_of}

@@ -16,13 +16,6 @@ ghost use Rattle.bounds.specs.Bounds.{category_before, setup_of, span_of, arriva
 
 use plan::Layout;
 
-// The later of two moments.
-pub fn later(a: u64, b: u64) -> u64
-    ensures { result ≡ max a b }
-{
-    if a < b { b } else { a }
-}
-
 // The category of the task of the activity that ran before; 8 where nothing did.
 fn category_before(table: &[usize], before: Option<usize>) -> usize
     requires { Below 128 (linked before) × (length table.now ≡ cells) }

@@ -9,7 +9,7 @@ ghost use Rattle.graph.specs.Order.{free, free_all, order_from, stack_free, orde
 ghost use Rattle.graph.specs.Links.{linked, link_of, part_of, succs_of, Shaped, Linked};
 ghost use Rattle.graph.specs.Run.{stack_of, state_of, Safe, SafeRun};
 
-pub use counting::{clear, count_arcs, tally_by, tally_links};
+pub use counting::{count_arcs, tally_by, tally_links};
 pub use filing::file_naming;
 
 // The activity that a link names. There are as many links as activities, so a number that is not

@@ -31,7 +31,7 @@ fn leaves_out(
     let n = z.activities;
     let waits = tables::WAITS;
     let waits_end = waits + n;
-    tables::copy(&table[waits..waits_end], counts);
+    counts.copy_from_slice(&table[waits..waits_end]);
     let nexts = tables::NEXTS;
     let nexts_end = nexts + n;
     let at = tables::WAITING_AT;

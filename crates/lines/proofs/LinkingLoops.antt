@@ -1,12 +1,11 @@
 -- The loops that write lines into arrays: what is left writes from here what all of it writes from the start. Assumes nothing.
 use mathlib.Core.Path.{◌≡◌, refl, sym, ap, ◌∙◌, subst}
-use mathlib.Core.List.{List, [], ◌∷◌, ◌++◌, append-nil}
+use mathlib.Core.List.{List, [], ◌∷◌}
 use Prim.Native.Nat.{ℕ, ◌+◌, ◌*◌, ◌-◌, ◌≤◌, ◌<◌}
 use native.Mathlib.Numerals.{add-one}
 use native.Mathlib.Omega.{arith}
 use lib.ListN.{length, get_or, set, drop, replicate, length-set, length-replicate, get_or-replicate, drop_of_length-le}
-use lib.Seq.{drop-cons, drop-length}
-use borrow.Author.Fill.{fill_more}
+use lib.Seq.{drop-cons}
 use Rattle.graph.specs.Counting.{Below}
 use Rattle.graph.proofs.CountingLaws.{below_more}
 use Rattle.lines.specs.Lines.{Lines, cells_from, lines_in, rest, Fit, WellFormed}
@@ -17,24 +16,6 @@ use Rattle.lines.proofs.LinkLaws.{written-length, marked-length, numbered-length
 
 next : (l : List ℕ) (i : ℕ) → i < length l → drop i l ≡ get_or l i 0 ∷ drop (i + 1) l
 next l i h = drop-cons l i 0 h ∙ ap (λ (k : ℕ). get_or l i 0 ∷ drop k l) (sym (add-one i))
-
--- ---- `fill`: one number so far, and the rest as it was
-
-pub record Filling (v : ℕ) (c₀ c : List ℕ) (i : ℕ) : Type 0 where
-  pub within : i ≤ length c₀
-  pub sized : length c ≡ length c₀
-  pub so_far : c ≡ replicate i v ++ drop i c₀
-
-module _ {v : ℕ} {c₀ c : List ℕ} {i : ℕ} (w : Filling v c₀ c i) where
-  pub fill_again : i < length c → Filling v c₀ (set c i v) (i + 1)
-  fill_again h =
-      let k : i < length c₀ = omega (arith, w.sized) in
-      record { within = omega arith; sized = length-set c i v ∙ w.sized; so_far = ap (λ (l : List ℕ). set l i v) w.so_far ∙ fill_more i v c₀ k }
-
-  pub fill_end : length c ≤ i → c ≡ replicate (length c₀) v
-  fill_end h =
-      let e : i ≡ length c₀ = omega (arith, w.sized, w.within) in
-      w.so_far ∙ rw (e, drop-length c₀) (append-nil (replicate (length c₀) v))
 
 -- ---- `link_pairs`: the pairs whose second stands at i or later are left
 

@@ -3,8 +3,7 @@
 use Rattle.std.specs.Prelude.{None, Some}
 use mathlib.Core.Path.{◌≡◌, refl}
 use mathlib.Core.Bool.{true, false}
-use mathlib.Core.List.{List, [], ◌∷◌}
-use Prim.Native.Nat.{ℕ}
+use mathlib.Core.List.{[], ◌∷◌}
 use lib.ListN.{get_or, take}
 use Rattle.graph.specs.Counting.{count_of, hit}
 use Rattle.graph.specs.Filing.{naming}

@@ -113,7 +113,7 @@ pub fn make_move(
     ensures timing { (order.new ≡ taken.now) × (starts.new ≡ begun.now) × (ends.new ≡ done.now) }
 {
     let moved = moves::apply(m, cells, lens);
-    tables::copy(taken, order);
+    order.copy_from_slice(taken);
     starts.copy_from_slice(begun);
     ends.copy_from_slice(done);
     moved

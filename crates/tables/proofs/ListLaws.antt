@@ -5,7 +5,6 @@ use mathlib.Core.List.{List, [], ◌∷◌}
 use native.Mathlib.Omega.{arith}
 use lib.ListN.{length, get_or, take, drop, length-take}
 use lib.Seq.{get_or-take, get_or-drop, drop-drop}
-use Rattle.graph.specs.Links.{part_of}
 use Rattle.tables.specs.Regions.{region}
 use Rattle.tables.specs.Tabled.{Listed}
 

@@ -3,7 +3,7 @@ use Rattle.std.specs.Prelude.{ℕ, zero, suc, ◌+◌, ◌*◌, ◌-◌, ◌≤�
 use Rattle.graph.specs.Counting.{bit}
 use Rattle.grammar.specs.Rules.{total_from}
 use Rattle.plan.specs.Problem.{Problem}
-use Rattle.plan.specs.Input.{cell, change_from}
+use Rattle.plan.specs.Input.{change_from}
 use Rattle.plan.specs.declared.Layout.{Layout}
 use Rattle.tables.specs.Tabled.{change_code, own_span}
 use Rattle.tables.specs.declared.Place.{Place}

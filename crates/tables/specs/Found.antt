@@ -1,5 +1,5 @@
 -- What the lookups answer, and what they ask.
-use Rattle.std.specs.Prelude.{ℕ, ◌≤◌, ◌<◌, List, Some, None, Option}
+use Rattle.std.specs.Prelude.{ℕ, ◌≤◌, ◌<◌, List}
 use Rattle.plan.specs.Problem.{Problem}
 use Rattle.tables.specs.Tabled.{Tabled}
 

@@ -22,7 +22,6 @@ use crate::changes::fill_changes;
 use crate::namings::{fill_candidates, fill_namings};
 use crate::owners::{fill_categories, fill_nexts, fill_owners, fill_releases};
 use crate::spans::fill_spans;
-pub use lists::copy;
 pub use lookups::{
     before_of, candidates_of, category_of, change_of, named_by, next_of, own_span, owner, release,
     waiting_for,

@@ -60,7 +60,7 @@ pub fn start_after(
     let there = bounds::arrival(step, ends, way);
     let free = bounds::arrival(line, ends, 0);
     let released = bounds::release_of(table, a);
-    let first = bounds::later(bounds::later(released, free), there);
+    let first = released.max(free).max(there);
     after_named(tables::named_by(table, a), ends, first)
 }
 

@@ -97,14 +97,6 @@ fn counts(forbidden: bool, best: f64, fitness: f64, held: Best) -> bool
     false
 }
 
-// Copies times.
-pub fn copy_times(from: &[u64], to: &mut [u64])
-    requires { length to.old ≡ length from.now }
-    ensures { to.new ≡ from.now }
-{
-    to.copy_from_slice(from);
-}
-
 // Weighs a move whose lines are timed. Where it counts, its timing is kept and it is answered, else what was held.
 fn weigh_move(
     s: &[u8],
@@ -132,7 +124,7 @@ fn weigh_move(
     if !counts(forbidden, best, fitness, held) {
         return held;
     }
-    tables::copy(order, taken);
+    taken.copy_from_slice(order);
     begun.copy_from_slice(starts);
     done.copy_from_slice(ends);
     Best::Found(fitness, m)

@@ -1,6 +1,5 @@
 -- `graph::take_all` meets its contract. The loop's invariant: what is taken, then what the rules take from here, is what they take from the
 -- start; the measure is the places that are left in the order. Assumes nothing.
-use Prim.Native.Nat.{◌-◌}
 use native.Mathlib.Omega.{arith}
 use Rattle.graph.proofs.Taking.{take_begin, take_end, take-place, take_known, take_asks, take_again}
 use Rattle.graph.proofs.take_all.Goals as goal

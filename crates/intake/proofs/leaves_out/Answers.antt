@@ -10,12 +10,12 @@ use Rattle.intake.proofs.leaves_out.Goals as goal
 pub order_of-taken-requires : goal.order_of-taken-requires
 order_of-taken-requires c = let k : 128 + c.args.z.activities - 128 ≡ c.args.z.activities = omega arith in
     let j : 512 + c.args.z.activities - 512 ≡ c.args.z.activities = omega arith in (
-      circle_asked (problem_of (words c.args.s.now) c.args.z) (genes_of (words c.args.s.now) c.args.z) c.requires.tabled.1 c.requires.tabled.0 c.requires.room.ordered c.requires.room.unlinked k j c.copy.ensures,
+      circle_asked (problem_of (words c.args.s.now) c.args.z) (genes_of (words c.args.s.now) c.args.z) c.requires.tabled.1 c.requires.tabled.0 c.requires.room.ordered c.requires.room.unlinked k j c.copy_from_slice.ensures.after,
       search rules,
     )
 
 pub returns : goal.returns
 returns c = let k : 128 + c.args.z.activities - 128 ≡ c.args.z.activities = omega arith in
     let j : 512 + c.args.z.activities - 512 ≡ c.args.z.activities = omega arith in
-    circle_answered (problem_of (words c.args.s.now) c.args.z) (genes_of (words c.args.s.now) c.args.z) c.requires.tabled.1 c.requires.tabled.0 c.requires.room.ordered c.requires.room.unlinked k j c.copy.ensures
+    circle_answered (problem_of (words c.args.s.now) c.args.z) (genes_of (words c.args.s.now) c.args.z) c.requires.tabled.1 c.requires.tabled.0 c.requires.room.ordered c.requires.room.unlinked k j c.copy_from_slice.ensures.after
     c.order_of-taken.result _ c.order_of-taken.ensures.0 (omega (arith, c.order_of-taken.ensures.1))

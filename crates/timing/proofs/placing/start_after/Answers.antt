@@ -13,6 +13,6 @@ pub returns : goal.returns
 returns c p tabled known few = let ends : ℕ → ℕ = λ q. get_or c.args.ends.now q 0 in
     after-all p c.args.a c.args.line c.args.step c.args.way ends
     (c.release_of-released.ensures p tabled known)
-    (c.later-first.ensures
-    ∙ ap₂ max (c.later.ensures ∙ ap (max c.release_of-released.result) c.arrival-free.ensures) c.arrival-there.ensures)
-    (c.after_named.ensures ∙ ap (λ (l : List ℕ). greatest ends l c.later-first.result) (c.named_by.ensures p tabled known few))
+    (c.max-first.ensures
+    ∙ ap₂ max (c.max.ensures ∙ ap (max c.release_of-released.result) c.arrival-free.ensures) c.arrival-there.ensures)
+    (c.after_named.ensures ∙ ap (λ (l : List ℕ). greatest ends l c.max-first.result) (c.named_by.ensures p tabled known few))
