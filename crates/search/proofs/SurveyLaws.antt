@@ -9,19 +9,18 @@ use lib.Dec.{ltb}
 use lib.ListN.{length, get_or, take, drop, length-drop, get_or-eq_default}
 use lib.Seq.{take_all}
 use Rattle.graph.specs.Counting.{Below}
-use Rattle.graph.proofs.CountingLaws.{either}
 use Rattle.plan.specs.Problem.{Problem, Genes}
 use Rattle.plan.specs.Accepted.{Accepted}
 use Rattle.plan.specs.Found.{transports_of}
 use Rattle.tables.specs.Tabled.{Tabled}
 use Rattle.lines.specs.Lines.{Lines, WellFormed, machine_of, position_of}
 use Rattle.intake.proofs.BareShop.{each_at, length-each}
-use Rattle.timing.specs.Timing.{timing_order, contradicts, span_at, starts_of, start_of, ends_of}
+use Rattle.timing.specs.Timing.{timing_order, contradicts, span_at, start_of}
 use Rattle.timing.specs.Ordering.{Neighbours}
 use Rattle.timing.specs.Placing.{Timed}
 use Rattle.timing.proofs.EndLaws.{ends_most}
 use Rattle.timing.proofs.PlacingLaws.{starts_length}
-use Rattle.path.specs.Placing.{Placing, placed}
+use Rattle.path.specs.Placing.{placed}
 use Rattle.path.specs.Path.{critical_path}
 use Rattle.path.specs.Tails.{tails}
 use Rattle.path.specs.Walking.{Walkable}

@@ -1,5 +1,5 @@
 -- Document 01, "One search step" and "Numbers on the screen": a step, the steps, and what Improve answers.
-use Rattle.std.specs.Prelude.{ℕ, zero, suc, ◌+◌, Bool, true, false, List, eqb, Float}
+use Rattle.std.specs.Prelude.{ℕ, zero, suc, Bool, true, false, List, eqb, Float}
 use Rattle.std.specs.Float.Ieee.{lt}
 use Rattle.plan.specs.Problem.{Problem, Genes}
 use Rattle.intake.specs.Circle.{each}

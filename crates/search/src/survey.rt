@@ -1,5 +1,5 @@
 // What a step looks at: the critical path, the tails, and from them the moves to try.
-ghost use Rattle.std.specs.Prelude.{◌≡◌, ◌≤◌, ◌<◌, length, drop};
+ghost use Rattle.std.specs.Prelude.{◌≡◌, ◌<◌, length, drop};
 ghost use Rattle.words.specs.Words.{words};
 ghost use Rattle.plan.specs.Input.{problem_of};
 ghost use Rattle.lines.specs.Lines.{lines_in};
@@ -68,8 +68,8 @@ pub fn find_moves(
 ) -> Moves
     requires ready { Ready s.now z table.now ways.now × Lined z.activities z.machines cells.now lens × Timed (problem_of (words s.now) z) (lines_in cells.now lens) order.now starts.now ends.now × (choices ≡ flexible (problem_of (words s.now) z)) }
     requires lines_held { LinesHeld z.activities (lines_in cells.now lens) (links_of before.now after.now machines.now places.now) × Space z.activities before.now after.now machines.now places.now path.old tail.old heads.old }
-    ensures blocks { (ranked result.blocks ≡ blocks_by (problem_of (words s.now) z) (lines_in cells.now lens) (placing_of (problem_of (words s.now) z) (lines_in cells.now lens))) × (result.blocks.count ≤ 3) }
-    ensures others { (ranked result.others ≡ others_by (problem_of (words s.now) z) (lines_in cells.now lens) (placing_of (problem_of (words s.now) z) (lines_in cells.now lens))) × (result.others.count ≤ 3) }
+    ensures blocks { ranked result.blocks ≡ blocks_by (problem_of (words s.now) z) (lines_in cells.now lens) (placing_of (problem_of (words s.now) z) (lines_in cells.now lens)) }
+    ensures others { ranked result.others ≡ others_by (problem_of (words s.now) z) (lines_in cells.now lens) (placing_of (problem_of (words s.now) z) (lines_in cells.now lens)) }
     ensures allowed { AllAllowed z.machines (lines_in cells.now lens) result.blocks × AllAllowed z.machines (lines_in cells.now lens) result.others }
 {
     let at = survey(

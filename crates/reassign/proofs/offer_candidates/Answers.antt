@@ -33,17 +33,17 @@ room_on-room-requires c = let m = machine_in_lem c.loop-to.to-index c.requires.s
 
 pub loop-to-preserved-in_default : goal.loop-to-preserved-in_default
 loop-to-preserved-in_default c = let none = sym c.room_on-room.ensures ∙ c.in_default.is in
-  λ p able. offering_none (c.loop-to.invariant p able) c.loop-to-test.true (none_there p (lines_in c.args.cells.now c.args.lens.now) (unordered c.args.starts.now c.args.ends.now) c.args.tail.now c.args.leaving (get_or c.args.candidates.now c.loop-to.to-index 0) c.if-to-leaving.false (c.own_span-time.ensures p able.tabled able.known (machine_in_lem c.loop-to.to-index able c.loop-to-test.true)) none)
+    λ p able. offering_none (c.loop-to.invariant p able) c.loop-to-test.true (none_there p (lines_in c.args.cells.now c.args.lens.now) (unordered c.args.starts.now c.args.ends.now) c.args.tail.now c.args.leaving (get_or c.args.candidates.now c.loop-to.to-index 0) c.if-to-leaving.false (c.own_span-time.ensures p able.tabled able.known (machine_in_lem c.loop-to.to-index able c.loop-to-test.true)) none)
 
 pub loop-to-preserved-then-not-enters : goal.loop-to-preserved-then-not-enters
 loop-to-preserved-then-not-enters c = let one = sym c.room_on-room.ensures ∙ c.in-Some.is in
     let out = stays_out c.loop-to.best (rated_at c.args.leaving (get_or c.args.candidates.now c.loop-to.to-index 0) c.own_span-time.result c.in-Some.spot) (sym c.enters.ensures ∙ c.if-not-enters.true) in
-      λ p able. offering_one (c.loop-to.invariant p able) c.loop-to-test.true (one_there p (lines_in c.args.cells.now c.args.lens.now) (unordered c.args.starts.now c.args.ends.now) c.args.tail.now c.args.leaving (get_or c.args.candidates.now c.loop-to.to-index 0) c.if-to-leaving.false (c.own_span-time.ensures p able.tabled able.known (machine_in_lem c.loop-to.to-index able c.loop-to-test.true)) c.in-Some.spot one) out
+    λ p able. offering_one (c.loop-to.invariant p able) c.loop-to-test.true (one_there p (lines_in c.args.cells.now c.args.lens.now) (unordered c.args.starts.now c.args.ends.now) c.args.tail.now c.args.leaving (get_or c.args.candidates.now c.loop-to.to-index 0) c.if-to-leaving.false (c.own_span-time.ensures p able.tabled able.known (machine_in_lem c.loop-to.to-index able c.loop-to-test.true)) c.in-Some.spot one) out
 
 pub loop-to-preserved : goal.loop-to-preserved
 loop-to-preserved c = let one = sym c.room_on-room.ensures ∙ c.in-Some.is in
     let kept = c.keep-best.ensures ∙ ap (λ (x : Rated). with_one x (ranked c.loop-to.best)) c.rated_at.ensures in
-      λ p able. offering_one (c.loop-to.invariant p able) c.loop-to-test.true (one_there p (lines_in c.args.cells.now c.args.lens.now) (unordered c.args.starts.now c.args.ends.now) c.args.tail.now c.args.leaving (get_or c.args.candidates.now c.loop-to.to-index 0) c.if-to-leaving.false (c.own_span-time.ensures p able.tabled able.known (machine_in_lem c.loop-to.to-index able c.loop-to-test.true)) c.in-Some.spot one) kept
+    λ p able. offering_one (c.loop-to.invariant p able) c.loop-to-test.true (one_there p (lines_in c.args.cells.now c.args.lens.now) (unordered c.args.starts.now c.args.ends.now) c.args.tail.now c.args.leaving (get_or c.args.candidates.now c.loop-to.to-index 0) c.if-to-leaving.false (c.own_span-time.ensures p able.tabled able.known (machine_in_lem c.loop-to.to-index able c.loop-to-test.true)) c.in-Some.spot one) kept
 
 pub returns : goal.returns
 returns c = λ p able. offering_end (c.loop-to.invariant p able) c.loop-to-test.false

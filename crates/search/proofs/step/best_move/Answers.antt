@@ -69,4 +69,4 @@ pub shape_of-done : goal.shape_of-done
 shape_of-done c = c.try_three.auto.done ∙ c.try_three-first.auto.done
 
 pub returns : goal.returns
-returns c = record { answer = all-tried (problem_of (words c.args.s.now) c.args.z) (lines_in c.args.cells.now c.args.lens) (lines_in c.try_three-first.new.cells c.args.lens) c.try_three-first.ensures.lines (λ l. forbidden c.args.step c.args.pairs c.args.left l) c.args.best c.find_moves-moves.ensures.blocks.0 c.find_moves-moves.ensures.others.0 (c.try_three-first.ensures.answer ∙ ap (λ b. tried_all (problem_of (words c.args.s.now) c.args.z) (lines_in c.args.cells.now c.args.lens) (forbidden c.args.step c.args.pairs c.args.left (lines_in c.args.cells.now c.args.lens)) c.args.best (moves_of (ranked c.find_moves-moves.result.blocks)) b) c.nothing.ensures) c.try_three.ensures.answer; holding = rw (sym c.try_three-first.ensures.lines) c.try_three.ensures.holding; lines = c.try_three.ensures.lines ∙ c.try_three-first.ensures.lines }
+returns c = record { answer = all-tried (problem_of (words c.args.s.now) c.args.z) (lines_in c.args.cells.now c.args.lens) (lines_in c.try_three-first.new.cells c.args.lens) c.try_three-first.ensures.lines (λ l. forbidden c.args.step c.args.pairs c.args.left l) c.args.best c.find_moves-moves.ensures.blocks c.find_moves-moves.ensures.others (c.try_three-first.ensures.answer ∙ ap (λ b. tried_all (problem_of (words c.args.s.now) c.args.z) (lines_in c.args.cells.now c.args.lens) (forbidden c.args.step c.args.pairs c.args.left (lines_in c.args.cells.now c.args.lens)) c.args.best (moves_of (ranked c.find_moves-moves.result.blocks)) b) c.nothing.ensures) c.try_three.ensures.answer; holding = rw (sym c.try_three-first.ensures.lines) c.try_three.ensures.holding; lines = c.try_three.ensures.lines ∙ c.try_three-first.ensures.lines }

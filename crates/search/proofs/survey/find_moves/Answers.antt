@@ -49,14 +49,14 @@ pub shape_of-tail : goal.shape_of-tail
 shape_of-tail c = c.survey-at.auto.tail
 
 pub returns : goal.returns
-returns c = let bs = blocks_are (problem_of (words c.args.s.now) c.args.z) (genes_of (words c.args.s.now) c.args.z) c.requires.ready.0.accepted (lines_in c.args.cells.now c.args.lens) c.requires.ready.1.well c.requires.ready.2 c.survey-at.ensures.tailed (part_is c.survey-at.new.path c.survey-at.result (omega (arith, c.survey-at.ensures.walked.1, c.requires.ready.0.accepted.activities.1, c.survey-at.auto.path, c.requires.lines_held.1.length_path)) ∙ c.survey-at.ensures.walked.0) (c.block_moves-blocks.ensures.result_value (problem_of (words c.args.s.now) c.args.z) c.args.order.now (searched (problem_of (words c.args.s.now) c.args.z) (genes_of (words c.args.s.now) c.args.z) c.requires.ready.0.accepted (lines_in c.args.cells.now c.args.lens) c.requires.ready.1.well c.requires.ready.2 c.requires.ready.0.tabled (neighbours c.requires.lines_held.0 c.requires.lines_held.1.length_before c.requires.lines_held.1.length-after) c.args.machines.now c.args.places.now c.requires.lines_held.1.length-machines c.requires.lines_held.1.length-places c.requires.lines_held.0.on c.requires.lines_held.0.at c.survey-at.ensures.tailed (part_is c.survey-at.new.path c.survey-at.result (omega (arith, c.survey-at.ensures.walked.1, c.requires.ready.0.accepted.activities.1, c.survey-at.auto.path, c.requires.lines_held.1.length_path)) ∙ c.survey-at.ensures.walked.0))) in
-    let os = others_are (problem_of (words c.args.s.now) c.args.z) (genes_of (words c.args.s.now) c.args.z) c.requires.ready.0.accepted (lines_in c.args.cells.now c.args.lens) c.requires.ready.1.well c.requires.ready.2 c.survey-at.ensures.tailed (part_is c.survey-at.new.path c.survey-at.result (omega (arith, c.survey-at.ensures.walked.1, c.requires.ready.0.accepted.activities.1, c.survey-at.auto.path, c.requires.lines_held.1.length_path)) ∙ c.survey-at.ensures.walked.0) (c.reassignments-others.ensures.by_index c.args.order.now) in
+returns c = let bs = blocks_are (problem_of (words c.args.s.now) c.args.z) (genes_of (words c.args.s.now) c.args.z) c.requires.ready.0.accepted (lines_in c.args.cells.now c.args.lens) c.requires.ready.1.well c.requires.ready.2 c.survey-at.ensures.tailed (part_is c.survey-at.new.path c.survey-at.result (omega (arith, c.survey-at.ensures.walked.1, c.requires.ready.0.accepted.activities.1, c.survey-at.auto.path, c.requires.lines_held.1.length_path)) ∙ c.survey-at.ensures.walked.0) (c.block_moves-blocks.ensures (problem_of (words c.args.s.now) c.args.z) c.args.order.now (searched (problem_of (words c.args.s.now) c.args.z) (genes_of (words c.args.s.now) c.args.z) c.requires.ready.0.accepted (lines_in c.args.cells.now c.args.lens) c.requires.ready.1.well c.requires.ready.2 c.requires.ready.0.tabled (neighbours c.requires.lines_held.0 c.requires.lines_held.1.length_before c.requires.lines_held.1.length-after) c.args.machines.now c.args.places.now c.requires.lines_held.1.length-machines c.requires.lines_held.1.length-places c.requires.lines_held.0.on c.requires.lines_held.0.at c.survey-at.ensures.tailed (part_is c.survey-at.new.path c.survey-at.result (omega (arith, c.survey-at.ensures.walked.1, c.requires.ready.0.accepted.activities.1, c.survey-at.auto.path, c.requires.lines_held.1.length_path)) ∙ c.survey-at.ensures.walked.0))) in
+    let os = others_are (problem_of (words c.args.s.now) c.args.z) (genes_of (words c.args.s.now) c.args.z) c.requires.ready.0.accepted (lines_in c.args.cells.now c.args.lens) c.requires.ready.1.well c.requires.ready.2 c.survey-at.ensures.tailed (part_is c.survey-at.new.path c.survey-at.result (omega (arith, c.survey-at.ensures.walked.1, c.requires.ready.0.accepted.activities.1, c.survey-at.auto.path, c.requires.lines_held.1.length_path)) ∙ c.survey-at.ensures.walked.0) (c.reassignments-others.ensures c.args.order.now) in
     let known = path_known (problem_of (words c.args.s.now) c.args.z) (genes_of (words c.args.s.now) c.args.z) c.requires.ready.0.accepted (lines_in c.args.cells.now c.args.lens) c.requires.ready.1.well c.requires.ready.2 c.requires.ready.0.tabled (neighbours c.requires.lines_held.0 c.requires.lines_held.1.length_before c.requires.lines_held.1.length-after) c.args.machines.now c.args.places.now c.requires.lines_held.1.length-machines c.requires.lines_held.1.length-places c.requires.lines_held.0.on c.requires.lines_held.0.at c.requires.ready.0.transports (part_is c.survey-at.new.path c.survey-at.result (omega (arith, c.survey-at.ensures.walked.1, c.requires.ready.0.accepted.activities.1, c.survey-at.auto.path, c.requires.lines_held.1.length_path)) ∙ c.survey-at.ensures.walked.0) in
     record {
-      blocks = (bs, c.block_moves-blocks.ensures.count_bound);
-      others = (os, c.reassignments-others.ensures.count_bound);
+      blocks = bs;
+      others = os;
       allowed = (
-        blocks_allowed (problem_of (words c.args.s.now) c.args.z) (lines_in c.args.cells.now c.args.lens) (subst (λ (l : List ℕ). Pathed (problem_of (words c.args.s.now) c.args.z).n (lines_in c.args.cells.now c.args.lens) l c.args.machines.now c.args.places.now) (part_is c.survey-at.new.path c.survey-at.result (omega (arith, c.survey-at.ensures.walked.1, c.requires.ready.0.accepted.activities.1, c.survey-at.auto.path, c.requires.lines_held.1.length_path)) ∙ c.survey-at.ensures.walked.0) (searched (problem_of (words c.args.s.now) c.args.z) (genes_of (words c.args.s.now) c.args.z) c.requires.ready.0.accepted (lines_in c.args.cells.now c.args.lens) c.requires.ready.1.well c.requires.ready.2 c.requires.ready.0.tabled (neighbours c.requires.lines_held.0 c.requires.lines_held.1.length_before c.requires.lines_held.1.length-after) c.args.machines.now c.args.places.now c.requires.lines_held.1.length-machines c.requires.lines_held.1.length-places c.requires.lines_held.0.on c.requires.lines_held.0.at c.survey-at.ensures.tailed (part_is c.survey-at.new.path c.survey-at.result (omega (arith, c.survey-at.ensures.walked.1, c.requires.ready.0.accepted.activities.1, c.survey-at.auto.path, c.requires.lines_held.1.length_path)) ∙ c.survey-at.ensures.walked.0)).pathed) c.block_moves-blocks.result c.block_moves-blocks.ensures.count_bound bs,
-        others_allowed (problem_of (words c.args.s.now) c.args.z) (lines_in c.args.cells.now c.args.lens) c.requires.ready.0.accepted (many_in c.args.cells.now c.args.lens ∙ c.requires.ready.1.sixteen) c.requires.ready.1.well (subst (λ (l : List ℕ). Below (problem_of (words c.args.s.now) c.args.z).n l) (part_is c.survey-at.new.path c.survey-at.result (omega (arith, c.survey-at.ensures.walked.1, c.requires.ready.0.accepted.activities.1, c.survey-at.auto.path, c.requires.lines_held.1.length_path)) ∙ c.survey-at.ensures.walked.0) known) c.reassignments-others.result c.reassignments-others.ensures.count_bound os,
+        blocks_allowed (problem_of (words c.args.s.now) c.args.z) (lines_in c.args.cells.now c.args.lens) (subst (λ (l : List ℕ). Pathed (problem_of (words c.args.s.now) c.args.z).n (lines_in c.args.cells.now c.args.lens) l c.args.machines.now c.args.places.now) (part_is c.survey-at.new.path c.survey-at.result (omega (arith, c.survey-at.ensures.walked.1, c.requires.ready.0.accepted.activities.1, c.survey-at.auto.path, c.requires.lines_held.1.length_path)) ∙ c.survey-at.ensures.walked.0) (searched (problem_of (words c.args.s.now) c.args.z) (genes_of (words c.args.s.now) c.args.z) c.requires.ready.0.accepted (lines_in c.args.cells.now c.args.lens) c.requires.ready.1.well c.requires.ready.2 c.requires.ready.0.tabled (neighbours c.requires.lines_held.0 c.requires.lines_held.1.length_before c.requires.lines_held.1.length-after) c.args.machines.now c.args.places.now c.requires.lines_held.1.length-machines c.requires.lines_held.1.length-places c.requires.lines_held.0.on c.requires.lines_held.0.at c.survey-at.ensures.tailed (part_is c.survey-at.new.path c.survey-at.result (omega (arith, c.survey-at.ensures.walked.1, c.requires.ready.0.accepted.activities.1, c.survey-at.auto.path, c.requires.lines_held.1.length_path)) ∙ c.survey-at.ensures.walked.0)).pathed) c.block_moves-blocks.result bs,
+        others_allowed (problem_of (words c.args.s.now) c.args.z) (lines_in c.args.cells.now c.args.lens) c.requires.ready.0.accepted (many_in c.args.cells.now c.args.lens ∙ c.requires.ready.1.sixteen) c.requires.ready.1.well (subst (λ (l : List ℕ). Below (problem_of (words c.args.s.now) c.args.z).n l) (part_is c.survey-at.new.path c.survey-at.result (omega (arith, c.survey-at.ensures.walked.1, c.requires.ready.0.accepted.activities.1, c.survey-at.auto.path, c.requires.lines_held.1.length_path)) ∙ c.survey-at.ensures.walked.0) known) c.reassignments-others.result os,
       );
     }
