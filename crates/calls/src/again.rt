@@ -31,14 +31,12 @@ fn repeat_in(
     ensures { result ≡ last_of times (contradicts (problem_of (words s.now) z) (lines_in cells.now lens)) (problem_of (words s.now) z) (lines_in cells.now lens) }
 {
     let ways = plan::transports(s, z);
-    let mut i = 0;
-    while i < times {
+    for _ in 0..times {
         if !timing::time_sequences(
             s, z, table, ways, cells, lens, before, after, on, places, order, begun, done,
         ) {
             return 0;
         }
-        i += 1;
     }
     if times == 0 {
         return 0;

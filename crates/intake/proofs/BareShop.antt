@@ -1,18 +1,17 @@
 -- A problem without lines is a shop: its arcs are task order and named predecessors. Number 4 is given exactly when they close a circle.
-use Rattle.std.specs.Prelude.{None, Option, Some, ℕ}
-use Prim.Native.Nat.{ℕ, zero, suc, ◌+◌, ◌≤◌, ◌<◌}
-use mathlib.Core.Path.{◌≡◌, refl, sym, ap, ◌∙◌, subst}
+use Rattle.std.specs.Prelude.{None, ℕ}
+use Prim.Native.Nat.{ℕ, zero, suc, ◌+◌, ◌<◌}
+use mathlib.Core.Path.{◌≡◌, refl, sym, ap, ◌∙◌}
 use mathlib.Core.Bool.{Bool, true, false, cond, ◌&&◌, false≢true}
-use mathlib.Core.List.{List, [], ◌∷◌, ◌++◌}
 use mathlib.Core.Logic.{◌↔◌}
 use native.Mathlib.Omega.{arith}
 use lib.Dec.{eqb, ltb}
 use lib.ListN.{length, get_or, length-append}
-use borrow.Author.Tests.{eq-eqb, ne_eqb, eqb-true, eqb-false, lt-ltb, le-ltb, ltb-true, ltb-false}
-use Rattle.graph.specs.Counting.{count_of, hit, Below}
+use borrow.Author.Tests.{eq-eqb, ne_eqb, lt-ltb, ltb-true}
+use Rattle.graph.specs.Counting.{count_of, Below}
 use Rattle.graph.specs.Arcs.{Circle}
 use Rattle.graph.specs.Links.{linked, to_if}
-use Rattle.graph.specs.Exact.{Counted, graph_order}
+use Rattle.graph.specs.Exact.{Counted}
 use Rattle.graph.specs.Shop.{Shop, Arc, line, task, name, ins}
 use Rattle.graph.proofs.CountingLaws.{either, hit-eq, hit-ne}
 use Rattle.graph.proofs.CircleLaws.{circle_map}
@@ -20,7 +19,7 @@ use Rattle.graph.proofs.ShopTheorem.{graph, contradicts}
 use Rattle.plan.specs.Problem.{Problem, Genes}
 use Rattle.plan.specs.Accepted.{Accepted}
 use Rattle.tables.specs.Tabled.{task_pred, task_succ, is_next, waits_of}
-use Rattle.intake.specs.Circle.{Before, step, name as named, each, frees, closes_circle}
+use Rattle.intake.specs.Circle.{Before, step, name as named, each, closes_circle}
 
 -- ---- links that are there or not
 

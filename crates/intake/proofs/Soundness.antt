@@ -4,14 +4,11 @@ use mathlib.Core.Bool.{Bool, true, false}
 use mathlib.Core.List.{List}
 use Prim.Native.Nat.{ℕ}
 use native.Mathlib.Omega.{arith}
-use Rattle.reader.specs.Reading.{read_all, no, yes, nothing_known}
-use Rattle.reader.specs.Answer.{Reading}
-use Rattle.reader.specs.Answer.{Answer}
-use Rattle.reader.specs.Answer.{Accepted as Taken, No}
+use Rattle.reader.specs.Reading.{read_all, nothing_known}
+use Rattle.reader.specs.Answer.{Reading, Answer, Accepted as Taken, No}
 use Rattle.reader.proofs.AcceptedLaws.{answered}
-use Rattle.graph.specs.Arcs.{Circle}
 use Rattle.plan.proofs.Accepting.{accepted_placed, accepted_layout, accepted_means}
-use Rattle.intake.specs.Circle.{Before, closes_circle}
+use Rattle.intake.specs.Circle.{closes_circle}
 use Rattle.intake.specs.Intake.{problem_in, genes_in, refused_if, then_circle, taken_in}
 use Rattle.intake.specs.Sound.{Sound}
 use Rattle.intake.proofs.BareShop.{four_is_circle}
@@ -38,7 +35,7 @@ module _ (s : List ℕ) where
 
   answers : (r x : Reading) → read_all s ≡ x → (a : Answer) → x.answer ≡ a → r ≡ then_circle a s x → r.answer ≡ Taken → Sound s r
   answers r x er Taken e q t = circled r x er e (closes_circle (problem_in s x)) refl q t
-  answers r x er (No number place) e q t = never_taken (ap (λ (y : Reading). y.answer) q ∙ e) t
+  answers r x er (No reason place) e q t = never_taken (ap (λ (y : Reading). y.answer) q ∙ e) t
 
   -- What was taken in keeps all that the record says.
   pub taken_in_means : (r : Reading) → r ≡ taken_in s → r.answer ≡ Taken → Sound s r

@@ -1,5 +1,5 @@
 -- Document 01, number 4: task order and predecessors alone close a circle, self included. "Task order" is the order of steps in a task.
-use Rattle.std.specs.Prelude.{ℕ, zero, suc, ◌+◌, ◌≤◌, ◌<◌, ◌≡◌, Bool, List, [], ◌∷◌, ◌++◌, ltb, length, take, replicate, Some}
+use Rattle.std.specs.Prelude.{ℕ, zero, suc, ◌≤◌, ◌<◌, ◌≡◌, Bool, List, [], ◌∷◌, ◌++◌, ltb, length, take, replicate, Some}
 use Rattle.graph.specs.Counting.{count_of}
 use Rattle.graph.specs.Order.{order_of}
 use Rattle.graph.specs.Links.{linked}

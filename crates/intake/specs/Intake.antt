@@ -2,9 +2,7 @@
 use Rattle.std.specs.Prelude.{ℕ, Bool, true, false, List, Result, Ok, Err}
 use Rattle.words.specs.Words.{words}
 use Rattle.reader.specs.Reading.{read_all, no}
-use Rattle.reader.specs.Answer.{Reading}
-use Rattle.reader.specs.Answer.{Answer}
-use Rattle.reader.specs.Answer.{Accepted, No}
+use Rattle.reader.specs.Answer.{Reading, Answer, Accepted, No}
 use Rattle.reader.specs.Refusals.{refusal}
 use Rattle.reader.specs.declared.refusal.Reason.TheVariants.{Circle}
 use Rattle.reader.specs.declared.refusal.Refusal.{Refusal}

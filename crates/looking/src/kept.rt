@@ -14,12 +14,10 @@ fn put_moves(rows: &mut [usize], at: usize, three: Three) -> usize
     ensures { Put (rows_of (moves_of (ranked three))) at rows.old rows.new result }
 {
     let mut next = at;
-    let mut k = 0;
-    while k < three.count {
+    for k in 0..three.count {
         let rated = ranking::at(three, k);
         let m = rated.made;
         next = put_move(rows, next, m);
-        k += 1;
     }
     next
 }
@@ -40,11 +38,9 @@ fn put_ranks(ranks: &mut [u64], at: usize, three: Three) -> usize
     ensures { Put (ranks_of (ranked three)) at ranks.old ranks.new result }
 {
     let mut next = at;
-    let mut k = 0;
-    while k < three.count {
+    for k in 0..three.count {
         let rated = ranking::at(three, k);
         next = put_rank(ranks, next, rated.length, rated.time);
-        k += 1;
     }
     next
 }

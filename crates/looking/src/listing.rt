@@ -54,10 +54,8 @@ fn put_shifts(
     ensures { Put (rows_of (shifts machine to from (end - from))) at rows.old rows.new result }
 {
     let mut next = at;
-    let mut i = from;
-    while i < end {
+    for i in from..end {
         next = put_move(rows, next, Move::Shift(machine, i, to));
-        i += 1;
     }
     next
 }

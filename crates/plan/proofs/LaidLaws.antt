@@ -2,7 +2,7 @@
 use Prim.Native.Nat.{ℕ, zero, suc, ◌+◌, ◌*◌, ◌-◌, ◌≤◌, ◌<◌}
 use mathlib.Core.Path.{◌≡◌, refl, sym, ◌∙◌, ap, subst}
 use mathlib.Core.Logic.{◌⊎◌, inl, inr}
-use mathlib.Core.Bool.{Bool, true, false, cond, ◌&&◌, ◌||◌}
+use mathlib.Core.Bool.{Bool, true, false, not, ◌&&◌, ◌||◌}
 use mathlib.Core.List.{List, [], ◌∷◌}
 use native.Mathlib.Omega.{arith}
 use native.Mathlib.Nat.{mul-suc}
@@ -12,14 +12,14 @@ use lib.ListN.{length, get_or}
 use Rattle.graph.proofs.CountingLaws.{either}
 use Rattle.grammar.specs.Sections.{sections, no_section, pick, time}
 use Rattle.grammar.specs.Ranges.{in_range}
-use Rattle.grammar.specs.Rules.{rising, pair_before, precedes, strict, entry_rule, total_from}
+use Rattle.grammar.specs.Rules.{rising, pair_before, precedes, strict, entry_kept, total_from}
 use Rattle.grammar.specs.declared.Known.{Known}
 use Rattle.grammar.specs.declared.Kind.{Kind}
 use Rattle.grammar.specs.declared.Kind.TheVariants.{Any, Deadline, WeightHigh}
 use Rattle.grammar.specs.declared.Rule.TheVariants.{RisingOnce}
 use Rattle.grammar.proofs.EntryLaws.{risen_to}
 use Rattle.reader.specs.Reading.{nothing_known, yes}
-use Rattle.reader.proofs.AcceptedLaws.{kept, both, Ranged, SectionRead}
+use Rattle.reader.proofs.AcceptedLaws.{both, Ranged, SectionRead}
 use Rattle.plan.specs.Input.{cell}
 use Rattle.plan.specs.Accepted.{longest}
 use Rattle.plan.specs.Found.{layout_of}
@@ -59,16 +59,16 @@ three_times (suc zero) k b w h e = (spans 0 longest w e).1
 three_times (suc (suc zero)) k b w h e = (spans 0 longest w e).1
 three_times (suc (suc (suc f))) k b w h e = absurd (omega arith)
 
--- ---- what a rule that gave no number says
+-- ---- what a rule that was kept says
 
-kept_once : (ws : List ℕ) (w done at : ℕ) → entry_rule ws RisingOnce w done at ≡ 0
+kept_once : (ws : List ℕ) (w done at : ℕ) → entry_kept ws RisingOnce w done at ≡ true
     → (rising ws w done at ≡ true) × (pair_before ws w done at (get_or ws at 0) (get_or ws (at + 1) 0) ≡ false)
 kept_once ws w done at e = by_tests (rising ws w done at) (pair_before ws w done at (get_or ws at 0) (get_or ws (at + 1) 0)) e
   where
-    by_tests : (b d : Bool) → ◌≡◌ {A = ℕ} (cond b (cond d 3 0) 3) 0 → (b ≡ true) × (d ≡ false)
-    by_tests true true e = absurd (omega arith)
+    by_tests : (b d : Bool) → (b && not d) ≡ true → (b ≡ true) × (d ≡ false)
+    by_tests true true e = (refl, sym e)
     by_tests true false e = (refl, refl)
-    by_tests false d e = absurd (omega arith)
+    by_tests false d e = absurd (cc)
 
 -- Entries of two words from p on: each begins with a word that is not below that of the entry before it.
 rises : (ws : List ℕ) (p e : ℕ) → rising ws 2 (0 + (e + 1)) (p + 2 * (e + 1)) ≡ true
@@ -140,9 +140,9 @@ module _ (ws : List ℕ) (activities machines times candidates setups predecesso
   laid t a m d c u p s o g le =
       let n : ℕ = get_or ws activities 0 in
       let r : ℕ = get_or ws machines 0 in
-      let product : get_or ws times 0 ≡ n * r = eqb-true _ _ (kept (eqb (get_or ws times 0) (n * r)) 2 d.rule) in
-      let sum : total_from ws (get_or ws 0 0) 1 ≡ n = eqb-true _ _ (kept (eqb (total_from ws (get_or ws 0 0) 1) n) 2 a.rule) in
-      let most : get_or ws assignment 0 ≤ n = leb-true _ _ (kept (leb (get_or ws assignment 0) n) 2 g.rule) in
+      let product : get_or ws times 0 ≡ n * r = eqb-true _ _ d.rule in
+      let sum : total_from ws (get_or ws 0 0) 1 ≡ n = eqb-true _ _ a.rule in
+      let most : get_or ws assignment 0 ≤ n = leb-true _ _ g.rule in
       let one : get_or ws search 0 ≡ 1 = omega (arith, s.low, s.high) in
       record {
         tasks_at = refl;
@@ -184,10 +184,10 @@ module _ (ws : List ℕ) (activities machines times candidates setups predecesso
         setup_previous = λ e l. (spans 0 8 _ (u.entries.words e 1 l (omega arith))).1;
         setup_category = λ e l. (spans 0 7 _ (u.entries.words e 2 l (omega arith))).1;
         setup_time = λ e l. (spans 0 longest _ (u.entries.words e 3 l (omega arith))).1;
-        setups_rise = λ e l. triples_rise ws (setups + 1) e (kept _ 2 (u.entries.rules (e + 1) l));
+        setups_rise = λ e l. triples_rise ws (setups + 1) e (u.entries.rules (e + 1) l);
         predecessor_of = λ e l. ltb-true _ _ (p.entries.words e 0 l (omega arith));
         predecessor_named = λ e l. ltb-true _ _ (p.entries.words e 1 l (omega arith));
-        predecessors_rise = λ e l. rises ws (predecessors + 1) e (kept _ 2 (p.entries.rules (e + 1) l));
+        predecessors_rise = λ e l. rises ws (predecessors + 1) e (p.entries.rules (e + 1) l);
         weight = λ k. after_word ws WeightHigh known₃ (search + 1 + 3 * 0) 0 (s.entries.words 0 1 (omega arith) (omega arith));
         limit = (spans 0 1000 _ (s.entries.words 0 2 (omega arith) (omega arith))).1;
         assigned = λ i l. either_of _ _ (g.entries.words i 0 l (omega arith)) (ltb-true _ _) (eqb-true _ _);

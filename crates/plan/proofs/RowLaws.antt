@@ -1,11 +1,10 @@
 -- Laws of rows of cells filled one after the other.
 use Prim.Native.Nat.{ℕ, zero, suc, ◌+◌, ◌≤◌, ◌<◌}
-use mathlib.Core.Path.{◌≡◌, refl, sym, ap, ◌∙◌}
+use mathlib.Core.Path.{◌≡◌, refl, ap, ◌∙◌}
 use mathlib.Core.List.{List, []}
 use native.Mathlib.Omega.{arith}
 use native.Mathlib.Numerals.{add-one}
-use native.Mathlib.Decide.{ℕ_discrete}
-use lib.ListN.{length, get_or, set, replicate, length-set, length-replicate}
+use lib.ListN.{length, get_or, set, replicate, length-set}
 use lib.Seq.{get_or-set_same, get_or-set_other}
 use Rattle.graph.proofs.CountingLaws.{either}
 use Rattle.plan.specs.Found.{row_to, rows_of, between}

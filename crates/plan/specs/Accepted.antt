@@ -1,6 +1,6 @@
 -- Document 01, "The input, word by word": what an accepted input promises about the problem and the genes that it means. Every later part
 -- leans on this record and on nothing else of the reader.
-use Rattle.std.specs.Prelude.{ℕ, ◌+◌, ◌≤◌, ◌<◌, ◌≡◌, List, length, Some}
+use Rattle.std.specs.Prelude.{ℕ, ◌+◌, ◌≤◌, ◌<◌, ◌≡◌, length, Some}
 use Rattle.graph.specs.Counting.{count_of, Below}
 use Rattle.plan.specs.Problem.{Problem, Genes}
 

@@ -1,5 +1,5 @@
 -- What the lookups answer, for the cases of their enums and the numbers of a layout.
-use Rattle.std.specs.Prelude.{ℕ, zero, suc, ◌≤◌, ◌<◌, ◌^◌, ◌≡◌, true, List, [], get_or, set, replicate, ℤ, Some, None, Option}
+use Rattle.std.specs.Prelude.{ℕ, zero, suc, ◌≤◌, ◌<◌, ◌^◌, ◌≡◌, true, List, [], get_or, set, replicate}
 use Rattle.grammar.specs.Ranges.{in_range}
 use Rattle.grammar.specs.declared.Kind.TheVariants.{WeightHigh}
 use Rattle.grammar.specs.declared.Known.{Known}

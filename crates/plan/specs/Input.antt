@@ -1,5 +1,5 @@
 -- Document 01, "The input, word by word": the problem and the genes that the words of an accepted input mean.
-use Rattle.std.specs.Prelude.{ℕ, zero, suc, ◌+◌, ◌*◌, ◌-◌, ◌^◌, max, Bool, true, false, cond, ◌&&◌, ◌||◌, List, [], ◌∷◌, eqb, ltb, leb, get_or, ℤ, Some, None, Option}
+use Rattle.std.specs.Prelude.{ℕ, zero, suc, ◌+◌, ◌*◌, ◌-◌, ◌^◌, max, Bool, true, false, cond, ◌&&◌, List, [], ◌∷◌, eqb, ltb, get_or, ℤ, Some, None, Option}
 use Rattle.std.specs.Float.Ieee.{of_bits}
 use Rattle.std.specs.Float.{binary64}
 use Rattle.words.specs.Signed.{signed_word, clamp}

@@ -6,48 +6,36 @@ use mathlib.Core.List.{List, [], ◌∷◌}
 use mathlib.Core.Bool.{Bool, true, false, cond, ◌&&◌}
 use native.Mathlib.Omega.{arith}
 use native.Mathlib.Nat.{mul-zero, mul-suc}
-use borrow.Author.Tests.{ltb-false, leb-true, eqb-true}
+use borrow.Author.Tests.{ltb-false, leb-true}
 use lib.ListN.{length, get_or, set}
-use lib.Dec.{ltb, leb, eqb}
+use lib.Dec.{ltb, leb}
+use Rattle.std.specs.Prelude.{Ok, Err}
 use Rattle.words.specs.Words.{words}
 use Rattle.grammar.specs.Sections.{sections, kind_at}
-use Rattle.grammar.specs.Ranges.{in_range, word_rule}
-use Rattle.grammar.specs.Rules.{width_of, count_rule, entry_rule, learnt, after}
+use Rattle.grammar.specs.Ranges.{in_range}
+use Rattle.grammar.specs.Rules.{width_of, count_kept, entry_kept, learnt, after}
 use Rattle.grammar.specs.declared.Section.{Section}
 use Rattle.grammar.specs.declared.Known.{Known}
 use Rattle.grammar.specs.declared.Kind.{Kind}
 use Rattle.grammar.specs.declared.Kind.TheVariants.{Span}
-use Rattle.reader.specs.Reading.{and_then, unless, read_word, read_fields, read_entries, read_section, then_read, read_sections, read_all, nothing_known, nowhere, no, yes}
-use Rattle.reader.specs.declared.Onward.{Onward}
-use Rattle.reader.specs.declared.Onward.TheVariants.{Next, Refused}
-use Rattle.reader.specs.declared.Answer.{Answer}
-use Rattle.reader.specs.declared.Answer.TheVariants.{Accepted, No}
-use Rattle.reader.specs.declared.Reading.{Reading}
+use Rattle.reader.specs.Answer.{Answer, Accepted, No, Reading}
+use Rattle.reader.specs.Reading.{Onward, and_then, where_kept, read_word, read_fields, read_entries, read_section, then_read, read_sections, read_all, nothing_known, nowhere, no, yes}
+use Rattle.reader.specs.declared.refusal.Reason.{Reason}
+use Rattle.reader.specs.declared.refusal.Reason.TheVariants.{Rest}
 use Rattle.reader.proofs.ReadingLaws.{within_next, read_section_within}
 
 -- ---- where a step that goes on came from
 
-refused_next : {A : Type 0} (q p a : ℕ) → Refused q p ≡ Next a → A
-refused_next q p a e = let z : ◌≡◌ {A = ℕ} 0 1 = cc in absurd (omega arith)
+ok_same : {a b : ℕ} → ◌≡◌ {A = Onward} (Ok a) (Ok b) → b ≡ a
+ok_same e = cc
 
-next_same : (a b : ℕ) → Next a ≡ Next b → b ≡ a
-next_same a b e = cc
+and_then_next : (t : Onward) (f : ℕ → Onward) (a : ℕ) → and_then t f ≡ Ok a → (b : ℕ) × (t ≡ Ok b) × (f b ≡ Ok a)
+and_then_next (Ok b) f a e = (b, refl, e)
+and_then_next (Err refused) f a e = absurd (cc)
 
-and_then_next : (t : Onward) (f : ℕ → Onward) (a : ℕ) → and_then t f ≡ Next a → (b : ℕ) × (t ≡ Next b) × (f b ≡ Next a)
-and_then_next (Next b) f a e = (b, refl, e)
-and_then_next (Refused q p) f a e = refused_next q p a e
-
-cond_next : (b : Bool) (t : Onward) (q p a : ℕ) → cond b t (Refused q p) ≡ Next a → (b ≡ true) × (t ≡ Next a)
-cond_next true t q p a e = (refl, e)
-cond_next false t q p a e = refused_next q p a e
-
-unless_next : (q p : ℕ) (t : Onward) (a : ℕ) → unless q p t ≡ Next a → (q ≡ 0) × (t ≡ Next a)
-unless_next q p t a e = let u = cond_next (eqb q 0) t q p a e in (eqb-true q 0 u.0, u.1)
-
--- A test whose failing would give a number.
-pub kept : (b : Bool) (n : ℕ) → cond b 0 (suc n) ≡ 0 → b ≡ true
-kept true n e = refl
-kept false n e = absurd (omega arith)
+kept_next : (b : Bool) (reason : Reason) (p : ℕ) (t : Onward) (a : ℕ) → where_kept b reason p t ≡ Ok a → (b ≡ true) × (t ≡ Ok a)
+kept_next true reason p t a e = (refl, e)
+kept_next false reason p t a e = absurd (cc)
 
 pub both : (b d : Bool) → (b && d) ≡ true → (b ≡ true) × (d ≡ true)
 both true d e = (refl, e)
@@ -59,18 +47,18 @@ both false d e = let z : ◌≡◌ {A = ℕ} 0 1 = cc in absurd (omega arith)
 abbrev pub Ranged : (words : List ℕ) → Known → Kind → (at : ℕ) → Type 0
 Ranged ws k kind at = in_range kind k (get_or ws (at - 1) 0) (get_or ws at 0) ≡ true
 
-pub word_next : (ws : List ℕ) (k : Known) (kind : Kind) (at a : ℕ) → read_word ws kind k at ≡ Next a → (a ≡ at + 1) × Ranged ws k kind at
+pub word_next : (ws : List ℕ) (k : Known) (kind : Kind) (at a : ℕ) → read_word ws kind k at ≡ Ok a → (a ≡ at + 1) × Ranged ws k kind at
 unfolding read_word
 word_next ws k kind at a e =
-    let u = cond_next (ltb at (length ws)) _ _ _ a e in
-    let v = unless_next (word_rule kind k (get_or ws (at - 1) 0) (get_or ws at 0)) _ _ a u.1 in
-    (next_same _ _ v.1, kept (in_range kind k (get_or ws (at - 1) 0) (get_or ws at 0)) 1 v.0)
+    let u = kept_next (ltb at (length ws)) _ _ _ a e in
+    let v = kept_next (in_range kind k (get_or ws (at - 1) 0) (get_or ws at 0)) _ _ _ a u.1 in
+    (ok_same v.1, v.0)
 
 module _ (ws : List ℕ) (s : Section) (k : Known) where
-  pub fields_next : (n f at a : ℕ) → read_fields ws s k n f at ≡ Next a
+  pub fields_next : (n f at a : ℕ) → read_fields ws s k n f at ≡ Ok a
       → (a ≡ at + n) × ((j : ℕ) → j < n → Ranged ws k (kind_at s (f + j)) (at + j))
   unfolding read_fields
-  fields_next zero f at a e = let h = next_same at a e in (omega arith, λ j l. absurd (omega arith))
+  fields_next zero f at a e = let h = ok_same e in (omega arith, λ j l. absurd (omega arith))
   fields_next (suc n) f at a e =
       let u = and_then_next (read_word ws (kind_at s f) k at) _ a e in
       let v = word_next ws k (kind_at s f) at u.0 u.1 in
@@ -91,18 +79,18 @@ module _ (ws : List ℕ) (s : Section) (k : Known) where
   -- n entries of w words from `at` on, after `done` others.
   pub record EntriesRead (w n done at : ℕ) : Type 0 where
     pub words : (e f : ℕ) → e < n → f < w → Ranged ws k (kind_at s f) (at + w * e + f)
-    pub rules : (e : ℕ) → e < n → entry_rule ws s.rule w (done + e) (at + w * e) ≡ 0
+    pub rules : (e : ℕ) → e < n → entry_kept ws s.rule w (done + e) (at + w * e) ≡ true
 
-  pub entries_next : (n done at a : ℕ) → read_entries ws s k n done at ≡ Next a
+  pub entries_next : (n done at a : ℕ) → read_entries ws s k n done at ≡ Ok a
       → (a ≡ at + width_of s k * n) × EntriesRead (width_of s k) n done at
   unfolding read_entries
   entries_next zero done at a e =
-      let h = next_same at a e in
+      let h = ok_same e in
       (omega (arith, mul-zero (width_of s k)), record { words = λ i j l m. absurd (omega arith); rules = λ i l. absurd (omega arith) })
   entries_next (suc n) done at a e =
       let u = and_then_next (read_fields ws s k w 0 at) _ a e in
       let v = fields_next w 0 at u.0 u.1 in
-      let c = unless_next (entry_rule ws s.rule w done at) _ _ a u.2 in
+      let c = kept_next (entry_kept ws s.rule w done at) _ _ _ a u.2 in
       let r = entries_next n (done + 1) u.0 a c.1 in (
         omega (arith, v.0, r.0, mul-suc w n),
         record { words = all v.1 u.0 v.0 r.1.words; rules = each c.0 u.0 v.0 r.1.rules },
@@ -123,9 +111,9 @@ module _ (ws : List ℕ) (s : Section) (k : Known) where
       all first b eb rest zero j l m = let z : 0 + j ≡ j = omega arith in rw here (rw z at (first j m))
       all first b eb rest (suc i) j l m = rw (later b i eb) (rest i j (omega arith) m)
 
-      each : entry_rule ws s.rule w done at ≡ 0 → (b : ℕ) → b ≡ at + w
-          → ((i : ℕ) → i < n → entry_rule ws s.rule w (done + 1 + i) (b + w * i) ≡ 0)
-          → (i : ℕ) → i < suc n → entry_rule ws s.rule w (done + i) (at + w * i) ≡ 0
+      each : entry_kept ws s.rule w done at ≡ true → (b : ℕ) → b ≡ at + w
+          → ((i : ℕ) → i < n → entry_kept ws s.rule w (done + 1 + i) (b + w * i) ≡ true)
+          → (i : ℕ) → i < suc n → entry_kept ws s.rule w (done + i) (at + w * i) ≡ true
       each first b eb rest zero l = let z : done + 0 ≡ done = omega arith in rw (here, z) first
       each first b eb rest (suc i) l = let z : done + suc i ≡ done + 1 + i = omega arith in rw (later b i eb, z) (rest i (omega arith))
 
@@ -135,19 +123,19 @@ module _ (ws : List ℕ) (s : Section) (k : Known) where
 pub record SectionRead (ws : List ℕ) (s : Section) (k : Known) (at next : ℕ) : Type 0 where
   pub low : s.low ≤ get_or ws at 0
   pub high : get_or ws at 0 ≤ s.high
-  pub rule : count_rule s.check k (get_or ws at 0) ≡ 0
+  pub rule : count_kept s.check k (get_or ws at 0) ≡ true
   pub entries : EntriesRead ws s (learnt s.keep k (get_or ws at 0)) (width_of s (learnt s.keep k (get_or ws at 0))) (get_or ws at 0) 0 (at + 1)
   pub onward : next ≡ at + 1 + width_of s (learnt s.keep k (get_or ws at 0)) * get_or ws at 0
   pub within : next ≤ length ws
 
-pub section_next : (ws : List ℕ) (s : Section) (k : Known) (at a : ℕ) → read_section ws s k at ≡ Next a → SectionRead ws s k at a
+pub section_next : (ws : List ℕ) (s : Section) (k : Known) (at a : ℕ) → read_section ws s k at ≡ Ok a → SectionRead ws s k at a
 unfolding read_section
 section_next ws s k at a e =
     let n : ℕ = get_or ws at 0 in
     let u = and_then_next (read_word ws (Span s.low s.high) k at) _ a e in
     let v = word_next ws k (Span s.low s.high) at u.0 u.1 in
     let b = both (leb s.low n) (leb n s.high) v.1 in
-    let c = unless_next (count_rule s.check k n) _ _ a u.2 in
+    let c = kept_next (count_kept s.check k n) _ _ _ a u.2 in
     let r = entries_next ws s (learnt s.keep k n) n 0 u.0 a c.1 in
     record {
       low = leb-true _ _ b.0;
@@ -158,11 +146,8 @@ section_next ws s k at a e =
       within = within_next _ _ (sym e) refl (read_section_within ws s k at);
     }
 
-refused_accepted : {A : Type 0} (q p : ℕ) (k : Known) (starts : List ℕ) → no q p ≡ yes k starts → A
-refused_accepted q p k starts e =
-    let a : No q p ≡ Accepted = ap (λ (r : Reading). r.answer) e in
-    let z : ◌≡◌ {A = ℕ} 0 1 = cc in
-    absurd (omega arith)
+refused_accepted : {A : Type 0} (reason : Reason) (p : ℕ) (k : Known) (starts : List ℕ) → no reason p ≡ yes k starts → A
+refused_accepted reason p k starts e = let a : No reason p ≡ Accepted = ap (λ (r : Reading). r.answer) e in absurd (cc)
 
 module _ (ws : List ℕ) (len i : ℕ) (k : Known) (starts : List ℕ) (at : ℕ) {k' : Known} {starts' : List ℕ} where
   -- The first of some sections, and the rest.
@@ -176,17 +161,17 @@ module _ (ws : List ℕ) (len i : ℕ) (k : Known) (starts : List ℕ) (at : ℕ
           → then_read t (read_sections ws len rest (i + 1) (after ws s.keep (learnt s.keep k (get_or ws at 0)) at) (set starts i at)) ≡ yes k' starts'
           → (next : ℕ) × SectionRead ws s k at next
           × (read_sections ws len rest (i + 1) (after ws s.keep (learnt s.keep k (get_or ws at 0)) at) (set starts i at) next ≡ yes k' starts')
-      by_step (Next a) et e = (a, section_next ws s k at a et, e)
-      by_step (Refused q p) et e = refused_accepted q p k' starts' e
+      by_step (Ok a) et e = (a, section_next ws s k at a et, e)
+      by_step (Err f) et e = refused_accepted f.reason f.place k' starts' e
 
   -- After the last section no byte is left.
   pub sections_done : read_sections ws len [] i k starts at ≡ yes k' starts' → (len ≤ 4 * at) × (yes k starts ≡ yes k' starts')
   unfolding read_sections
   sections_done e = by_room (ltb (4 * at) len) refl e
     where
-      by_room : (b : Bool) → ltb (4 * at) len ≡ b → cond b (no 5 (4 * at)) (yes k starts) ≡ yes k' starts'
+      by_room : (b : Bool) → ltb (4 * at) len ≡ b → cond b (no Rest (4 * at)) (yes k starts) ≡ yes k' starts'
           → (len ≤ 4 * at) × (yes k starts ≡ yes k' starts')
-      by_room true eb e = refused_accepted 5 (4 * at) k' starts' e
+      by_room true eb e = refused_accepted Rest (4 * at) k' starts' e
       by_room false eb e = (ltb-false _ _ eb, e)
 
 -- Some sections read one after the other, and what came of it: for each where the next one starts and what was found; at the end no byte is

@@ -1,7 +1,7 @@
 -- Document 01, "Numbers on the screen", numbers 1, 2, 3 and 5: word by word, each read and ranged before the next; an entry's rule after all
 -- its words, a count's rule right after the count; what follows the last section is refused last.
 -- Places within the words are word numbers; a refusal's place is a byte number.
-use Rattle.std.specs.Prelude.{ℕ, zero, suc, ◌+◌, ◌*◌, ◌-◌, Bool, true, false, cond, List, [], ◌∷◌, ltb, length, get_or, set, replicate, Result, Ok, Err}
+use Rattle.std.specs.Prelude.{ℕ, zero, suc, ◌+◌, ◌*◌, ◌-◌, Bool, cond, List, [], ◌∷◌, ltb, length, get_or, set, replicate, Result, Ok, Err}
 use Rattle.words.specs.Words.{words}
 use Rattle.grammar.specs.Sections.{sections, kind_at}
 use Rattle.grammar.specs.Ranges.{in_range, back}

@@ -17,10 +17,8 @@ fn save_tasks(table: &[usize], order: &[usize], tasks: &mut [usize])
     requires { (length table.now ≡ cellsOfTable) × Below 128 order.now × (length tasks.old ≡ length order.now) }
     ensures { (p : Problem) → Tabled p table.now → Below p.n order.now → tasks.new ≡ tasks_of p order.now }
 {
-    let mut i = 0;
-    while i < order.len() {
-        tasks[i] = tables::owner(table, order[i]);
-        i += 1;
+    for (i, &a) in order.iter().enumerate() {
+        tasks[i] = tables::owner(table, a);
     }
 }
 

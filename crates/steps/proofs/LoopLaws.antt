@@ -6,8 +6,6 @@ use mathlib.Core.List.{List}
 use native.Mathlib.Omega.{arith}
 use native.Mathlib.Numerals.{add-one}
 use lib.Dec.{T}
-use mir.Syntax.{w64}
-use mir.Val.{Fits}
 use lib.Ieee.{Float, lt, is_nan}
 use lib.ListN.{length, get_or}
 use Rattle.words.specs.Words.{words, Below as BelowBytes}
@@ -63,10 +61,6 @@ pub line_number : (s : List ℕ) (z : Layout) → Accepted (problem_of (words s)
 line_number s z ok bytes weighed lines w {order} {starts} {ends} t =
     subst (λ (l : List ℕ). Number (fitness_of (problem_of (words s) z) (λ a. get_or l a 0))) t.placement.done
     (fitness_no_nan s z ok bytes weighed ends (ended (problem_of (words s) z) (genes_of (words s) z) ok lines w t))
-
--- the next step's number fits a word
-pub next_fits : (step : ℕ) → step < 1000 → Fits w64 (step + 1)
-next_fits step h = omega (arith, h)
 
 -- ---- timed lines
 
@@ -124,26 +118,6 @@ module _ {p : Problem} {last : State} {limit : ℕ} {cells lens order starts end
       ends_at : (m : ℕ) → steps_from p m step Nothing st ≡ st
       ends_at zero = refl
       ends_at (suc m) = refl
-
-  -- .. so that no step is left, on the lines as they were put back
-  pub stop_here : {b : Best} → b ≡ best_from p step st → b ≡ Nothing → (cells₁ : List ℕ) → lines_in cells₁ lens ≡ lines_in cells lens → length cells₁ ≡ length cells
-      → {taken₁ begun₁ done₁ : List ℕ} → Kept p.n taken₁ begun₁ done₁ → Going p last step cells₁ lens order starts ends taken₁ begun₁ done₁ tasks machines pairs left best found step
-  unfolding steps_from
-  stop_here e q cells₁ same long kept =
-      let st₁ : State = state_of (lines_in cells₁ lens) pairs left best (saved_of found tasks machines) in
-      let z : 0 ≡ step - step = omega arith in
-      record {
-        within = omega arith;
-        few = omega (arith, k.within, k.few);
-        lined = record { roomy = long ∙ k.lined.roomy; sixteen = k.lined.sixteen; well = subst (λ (l : Lines). WellFormed p.n p.machines l) (sym same) k.lined.well };
-        timed = timed_on (sym same) k.timed;
-        room = k.room;
-        kept = kept;
-        tasked = k.tasked;
-        machined = k.machined;
-        number = k.number;
-        ahead = stopped e q ∙ same_state (sym same) refl refl refl refl ∙ ap (λ (m : ℕ). steps_from p m step (best_from p step st₁) st₁) z;
-      }
 
   -- a move is made
   pub made_ahead : step < limit → {b : Best} {f : Float} {m : Move} → b ≡ best_from p step st → b ≡ Found f m

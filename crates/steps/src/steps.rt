@@ -50,17 +50,14 @@ pub fn search_lines(
         best: first,
         found: false,
     };
-    let mut until = limit;
-    let mut step = 0;
-    while step < until {
+    for step in 0..limit {
         let best = sofar.best;
         let tried = try_step(
             s, z, table, &ways, choices, step, pairs, left, best, cells, lengths, order, starts,
             ends, taken, begun, done,
         );
         let Best::Found(f, m) = tried else {
-            until = step;
-            continue;
+            break;
         };
         let paired = trial::pairs_after(m, step, pairs, cells);
         pairs = paired;
@@ -79,7 +76,6 @@ pub fn search_lines(
             f,
             sofar,
         );
-        step += 1;
     }
     sofar
 }

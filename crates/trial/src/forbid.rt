@@ -23,12 +23,10 @@ fn names(t: Taboo, step: usize, x: usize, y: usize) -> bool
 fn listed(places: [Taboo; 6], step: usize, x: usize, y: usize) -> bool
     ensures { result ≡ listed step places x y }
 {
-    let mut i = 0;
-    while i < 6 {
-        if names(places[i], step, x, y) {
+    for place in places {
+        if names(place, step, x, y) {
             return true;
         }
-        i += 1;
     }
     false
 }

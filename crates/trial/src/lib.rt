@@ -102,11 +102,7 @@ pub fn copy_times(from: &[u64], to: &mut [u64])
     requires { length to.old ≡ length from.now }
     ensures { to.new ≡ from.now }
 {
-    let mut i = 0;
-    while i < from.len() {
-        to[i] = from[i];
-        i += 1;
-    }
+    to.copy_from_slice(from);
 }
 
 // Weighs a move whose lines are timed. Where it counts, its timing is kept and it is answered, else what was held.
@@ -137,8 +133,8 @@ fn weigh_move(
         return held;
     }
     tables::copy(order, taken);
-    copy_times(starts, begun);
-    copy_times(ends, done);
+    begun.copy_from_slice(starts);
+    done.copy_from_slice(ends);
     Best::Found(fitness, m)
 }
 
@@ -263,8 +259,7 @@ pub fn try_three(
     ensures linked { LinesHeld z.activities (lines_in cells.old lens) (links_of before.new after.new machines.new places.new) }
 {
     let mut kept = held;
-    let mut k = 0;
-    while k < three.count {
+    for k in 0..three.count {
         let rated = ranking::at(three, k);
         let m = rated.made;
         let forbidden = forbid::is_forbidden(m, step, pairs, left, cells);
@@ -272,7 +267,6 @@ pub fn try_three(
             s, z, table, ways, m, forbidden, best, kept, cells, lens, before, after, machines,
             places, counts, stack, order, starts, ends, taken, begun, done,
         );
-        k += 1;
     }
     kept
 }

@@ -10,10 +10,6 @@ use Rattle.reader.specs.Reading.{read_entries}
 use Rattle.reader.proofs.read_entries.Given as goal
 
 abbrev pub invariant-loop-done : goal.invariant-loop-done
-invariant-loop-done l = (l.done ≤ l.n)
-    × (l.p ≤ length (words l.s))
+invariant-loop-done l = (l.p ≤ length (words l.s))
     × ((l.row.rule ≡ RisingOnce) → Risen (words l.s) (width_of l.row l.k) l.done l.p)
     × (read_entries (words l.s) l.row l.k l.n 0 l.at ≡ read_entries (words l.s) l.row l.k (l.n - l.done) l.done l.p)
-
-abbrev pub decreases-loop-done : goal.decreases-loop-done
-decreases-loop-done l = l.n - l.done

@@ -3,11 +3,10 @@ use Prim.Native.Nat.{◌≤◌, ◌-◌}
 use mathlib.Core.Path.{◌≡◌}
 use lib.ListN.{length}
 use Rattle.words.specs.Words.{words}
+use Rattle.grammar.specs.Rules.{width_of}
 use Rattle.reader.specs.Reading.{read_fields}
 use Rattle.reader.proofs.read_entry.Given as goal
 
 abbrev pub invariant-loop-f : goal.invariant-loop-f
-invariant-loop-f l = (l.f ≤ l.n) × (l.p ≤ length (words l.s)) × (read_fields (words l.s) l.row l.k l.n 0 l.at ≡ read_fields (words l.s) l.row l.k (l.n - l.f) l.f l.p)
-
-abbrev pub decreases-loop-f : goal.decreases-loop-f
-decreases-loop-f l = l.n - l.f
+invariant-loop-f l = (l.p ≤ length (words l.s))
+    × (read_fields (words l.s) l.row l.k (width_of l.row l.k) 0 l.at ≡ read_fields (words l.s) l.row l.k (width_of l.row l.k - l.f) l.f l.p)

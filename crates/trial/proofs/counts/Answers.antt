@@ -1,7 +1,6 @@
 -- `trial::counts` meets its contract, a case for each test. Assumes nothing.
 use mathlib.Core.Bool.{true, false}
 use mathlib.Core.Path.{◌≡◌}
-use Rattle.graph.proofs.BoolLaws.{denied, granted}
 use Rattle.trial.proofs.counts.Goals as goal
 
 pub returns-then-not-forbidden : goal.returns-then-not-forbidden

@@ -7,7 +7,6 @@ use Rattle.lines.specs.Lines.{lines_in}
 use Rattle.moves.specs.Moves.{applied}
 use Rattle.timing.specs.Timing.{contradicts}
 use Rattle.trial.proofs.TimeLaws.{allowed_well_formed, ended, rising}
-use Rattle.graph.proofs.BoolLaws.{denied, granted}
 use Rattle.trial.proofs.WeighLaws.{tried_not, tried_is, weighing, weighed_held, not_not, not_false}
 use Rattle.trial.proofs.try_move.Goals as goal
 

@@ -1,5 +1,5 @@
 -- `looking::kept::put_moves` meets its contract. The loop's invariant: those that are left, put from here on, give all of them.
-use Prim.Native.Nat.{◌+◌, ◌-◌}
+use Prim.Native.Nat.{◌+◌}
 use native.Mathlib.Omega.{arith}
 use lib.ListN.{drop}
 use Rattle.ranking.specs.Ranking.{ranked}
@@ -12,20 +12,11 @@ use Rattle.looking.proofs.kept.put_moves.Goals as goal
 pub loop-k-init : goal.loop-k-init
 loop-k-init c = putting_begin (rows_of (moves_of (ranked c.args.three))) c.args.at c.args.rows.now (omega (arith, c.requires.1, held_rows c.args.three c.requires.0))
 
-pub at-rated-requires : goal.at-rated-requires
-at-rated-requires c = (c.requires.0, c.loop-k-test.true)
-
 pub put_move-next-requires : goal.put_move-next-requires
 put_move-next-requires c = omega (arith, row_long c.at-rated.result.made, piece_room c.loop-k.invariant (row_of c.at-rated.result.made) (rows_of (moves_of (drop (c.loop-k.k + 1) (ranked c.args.three)))) (rows_next c.args.three c.requires.0 c.loop-k-test.true c.at-rated.result (c.at-rated.ensures c.at-rated.result)))
 
-pub overflow_add-k : goal.overflow_add-k
-overflow_add-k c = omega (arith, c.loop-k-test.true, c.requires.0)
-
 pub loop-k-preserved : goal.loop-k-preserved
 loop-k-preserved c = putting_again c.loop-k.invariant (rows_of (moves_of (drop (c.loop-k.k + 1) (ranked c.args.three)))) (rows_next c.args.three c.requires.0 c.loop-k-test.true c.at-rated.result (c.at-rated.ensures c.at-rated.result)) c.put_move-next.ensures
-
-pub shape_of-rows : goal.shape_of-rows
-shape_of-rows c = c.loop-k.invariant.long
 
 pub returns : goal.returns
 returns c = putting_end c.loop-k.invariant (rows_end c.args.three c.requires.0 c.loop-k-test.false)

@@ -1,5 +1,5 @@
 -- `looking::kept::put_ranks` meets its contract. The loop's invariant: those that are left, put from here on, give all of them.
-use Prim.Native.Nat.{◌+◌, ◌-◌}
+use Prim.Native.Nat.{◌+◌}
 use mathlib.Core.List.{◌∷◌, []}
 use native.Mathlib.Omega.{arith}
 use lib.ListN.{drop}
@@ -12,20 +12,11 @@ use Rattle.looking.proofs.kept.put_ranks.Goals as goal
 pub loop-k-init : goal.loop-k-init
 loop-k-init c = putting_begin (ranks_of (ranked c.args.three)) c.args.at c.args.ranks.now (omega (arith, c.requires.1, held_ranks c.args.three c.requires.0))
 
-pub at-rated-requires : goal.at-rated-requires
-at-rated-requires c = (c.requires.0, c.loop-k-test.true)
-
 pub put_rank-next-requires : goal.put_rank-next-requires
 put_rank-next-requires c = piece_room c.loop-k.invariant (c.at-rated.result.length ∷ c.at-rated.result.time ∷ []) (ranks_of (drop (c.loop-k.k + 1) (ranked c.args.three))) (ranks_next c.args.three c.requires.0 c.loop-k-test.true c.at-rated.result (c.at-rated.ensures c.at-rated.result))
 
-pub overflow_add-k : goal.overflow_add-k
-overflow_add-k c = omega (arith, c.loop-k-test.true, c.requires.0)
-
 pub loop-k-preserved : goal.loop-k-preserved
 loop-k-preserved c = putting_again c.loop-k.invariant (ranks_of (drop (c.loop-k.k + 1) (ranked c.args.three))) (ranks_next c.args.three c.requires.0 c.loop-k-test.true c.at-rated.result (c.at-rated.ensures c.at-rated.result)) c.put_rank-next.ensures
-
-pub shape_of-ranks : goal.shape_of-ranks
-shape_of-ranks c = c.loop-k.invariant.long
 
 pub returns : goal.returns
 returns c = putting_end c.loop-k.invariant (ranks_end c.args.three c.requires.0 c.loop-k-test.false)

@@ -1,5 +1,4 @@
 -- `looking::kept::put_ranks` meets its contract. The loop's invariant: those that are left, put from here on, give all of them.
-use Prim.Native.Nat.{◌-◌}
 use lib.ListN.{drop}
 use Rattle.ranking.specs.Ranking.{ranked}
 use Rattle.looking.specs.Rows.{ranks_of}
@@ -8,6 +7,3 @@ use Rattle.looking.proofs.kept.put_ranks.Given as goal
 
 abbrev pub invariant-loop-k : goal.invariant-loop-k
 invariant-loop-k l = Putting (ranks_of (ranked l.three)) (ranks_of (drop l.k (ranked l.three))) l.at l.initial.ranks l.ranks l.next
-
-abbrev pub decreases-loop-k : goal.decreases-loop-k
-decreases-loop-k l = l.three.count - l.k

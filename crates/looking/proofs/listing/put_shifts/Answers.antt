@@ -17,8 +17,5 @@ put_move-next-requires c = piece_room c.loop-i.invariant.1 (row_of (Shift c.args
 pub loop-i-preserved : goal.loop-i-preserved
 loop-i-preserved c = (omega arith, putting_again c.loop-i.invariant.1 (rows_of (shifts c.args.machine c.args.to (c.loop-i.i + 1) (c.args.end - (c.loop-i.i + 1)))) (shifts_next c.args.machine c.args.to c.loop-i.i c.args.end c.loop-i-test.true) c.put_move-next.ensures)
 
-pub shape_of-rows : goal.shape_of-rows
-shape_of-rows c = c.loop-i.invariant.1.long
-
 pub returns : goal.returns
 returns c = putting_end c.loop-i.invariant.1 (shifts_end c.args.machine c.args.to c.loop-i.i c.args.end c.loop-i-test.false)

@@ -7,6 +7,3 @@ use Rattle.looking.proofs.listing.put_shifts.Given as goal
 
 abbrev pub invariant-loop-i : goal.invariant-loop-i
 invariant-loop-i l = (l.i ≤ l.end) × Putting (rows_of (shifts l.machine l.to l.from (l.end - l.from))) (rows_of (shifts l.machine l.to l.i (l.end - l.i))) l.at l.initial.rows l.rows l.next
-
-abbrev pub decreases-loop-i : goal.decreases-loop-i
-decreases-loop-i l = l.end - l.i
