@@ -1,6 +1,6 @@
 -- Demand 3 for the public call: what an accepted plan's lines come to, told by arcs and bounds.
-use Prim.Native.Nat.{ℕ, suc, ◌+◌, ◌≤◌, ◌<◌}
-use mathlib.Core.Path.{◌≡◌, refl, sym, ap, ap₂, ◌∙◌, subst}
+use Prim.Native.Nat.{ℕ, ◌+◌, ◌≤◌, ◌<◌}
+use mathlib.Core.Path.{◌≡◌, refl, sym, ap, ap₂, ◌∙◌}
 use mathlib.Core.Bool.{Bool, true, false, ◌&&◌, false≢true}
 use mathlib.Core.List.{List, [], ◌∷◌, ◌++◌}
 use native.Mathlib.Omega.{arith}
@@ -8,11 +8,13 @@ use lib.Dec.{leb}
 use borrow.Author.Tests.{le-leb, ltb-false, eq-eqb, ne_eqb}
 use lib.ListN.{length, get_or, take, drop, get_or-append}
 use lib.Ieee.{to_bits, binary64}
+use Rattle.std.specs.Prelude.{Result}
 use Rattle.graph.specs.Counting.{count_of}
 use Rattle.graph.proofs.CountingLaws.{below_of, either, hit-ne}
 use Rattle.graph.proofs.Theorem.{at_most_n, all_named, order_once}
 use Rattle.graph.proofs.ShopTheorem.{graph}
 use Rattle.reader.specs.Answer.{Accepted as Read}
+use Rattle.reader.specs.declared.refusal.Refusal.{Refusal}
 use Rattle.plan.specs.Problem.{Problem, Genes}
 use Rattle.plan.specs.Accepted.{Accepted}
 use Rattle.lines.specs.Lines.{Lines, lines_in, machine_of, place_on, well_formed, WellFormed}
@@ -30,9 +32,8 @@ use Rattle.timing.proofs.LinesShop.{shop, counted}
 use Rattle.timing.proofs.Demand3.{timing_exact}
 use Rattle.rows.specs.Rows.{gathered, over, Roomy}
 use Rattle.rows.proofs.RowLaws.{length-gathered, gathered_at}
-use Rattle.calls.specs.declared.Answer.{Answer}
-use Rattle.calls.specs.declared.Answer.TheVariants.{Refused, Rows}
-use Rattle.calls.specs.Outcome.{Outcome, answer_of, Leaves}
+use Rattle.calls.specs.declared.Sheet.{Sheet}
+use Rattle.calls.specs.Outcome.{answer_of, Leaves}
 use Rattle.calls.specs.Timing.{fitness_on, eight_if, timed_lines, timed, roomy}
 use Rattle.calls.specs.Demand3.{in_row, Least, Demand3}
 use Rattle.calls.proofs.PrefixLaws.{prefix_is}
@@ -85,7 +86,7 @@ module _ (p : Problem) (g : Genes) (ok : Accepted p g) (lines : Lines) (w : Well
             followed = λ q a h k. omega (arith, m.followed q a h k, started a h, started q (below_of p.n q (p.predecessors a) (ok.predecessors a) k));
           }
 
-      pub rows-least : {answer : Answer} → answer ≡ answer_of (eight_if false p lines) → Least p lines answer activities machines starts ends
+      pub rows-least : {answer : Result Sheet Refusal} → answer ≡ answer_of (eight_if false p lines) → Least p lines answer activities machines starts ends
       rows-least q =
           record {
             bits = to_bits binary64 (fitness_on p lines);
@@ -101,7 +102,7 @@ module _ (p : Problem) (g : Genes) (ok : Accepted p g) (lines : Lines) (w : Well
                 omega (arith, in_row' a₀ e₀ (ends_of p lines) l.activities l.ends a h, each_of (λ b. start_of p lines b + span_at p lines b) a h, started a h);
           }
 
-  module _ {answer : Answer} {a₀ m₀ s₀ e₀ u₀ activities machines starts ends setups : List ℕ} where
+  module _ {answer : Result Sheet Refusal} {a₀ m₀ s₀ e₀ u₀ activities machines starts ends setups : List ℕ} where
     eight_circle : (b : Bool) → b ≡ contradicts p lines → answer ≡ answer_of (eight_if b p lines) → Leaves (eight_if b p lines) a₀ m₀ s₀ e₀ u₀ activities machines starts ends setups
         → Demand3 p lines answer activities machines starts ends
     eight_circle true q r l =
@@ -110,7 +111,7 @@ module _ (p : Problem) (g : Genes) (ok : Accepted p g) (lines : Lines) (w : Well
     eight_circle false q r l =
         record {
           contradicts = (
-            λ k. let z : Rows p.n (to_bits binary64 (fitness_on p lines)) ≡ Refused 8 0 = sym r ∙ k in let y : ◌≡◌ {A = ℕ} 0 1 = cc in absurd (omega arith),
+            λ k. absurd (cc (r, k)),
             λ k. absurd (false≢true (q ∙ (timing_exact p g ok lines w).circle.1 k)),
           );
           otherwise = λ none. rows-least (sym q) l r;
@@ -136,7 +137,7 @@ room_there cells a m s e u h r =
 
 -- For any accepted plan, buffers of full size, and any lines on its machines that hold each activity exactly once: of every answer and every
 -- content of the buffers that the contract of `time` permits.
-pub demand_3 : (bytes cells lens : List ℕ) {a₀ m₀ s₀ e₀ u₀ a m s e u : List ℕ} {answer : Answer} → (taken_in bytes).answer ≡ Read → 2048 ≤ length cells → Roomy 128 a₀ m₀ s₀ e₀ u₀
+pub demand_3 : (bytes cells lens : List ℕ) {a₀ m₀ s₀ e₀ u₀ a m s e u : List ℕ} {answer : Result Sheet Refusal} → (taken_in bytes).answer ≡ Read → 2048 ≤ length cells → Roomy 128 a₀ m₀ s₀ e₀ u₀
     → WellFormed (problem_in bytes (taken_in bytes)).n (problem_in bytes (taken_in bytes)).machines (lines_in (take 2048 cells) lens)
     → answer ≡ answer_of (timed bytes cells lens a₀ m₀ s₀ e₀ u₀) → Leaves (timed bytes cells lens a₀ m₀ s₀ e₀ u₀) a₀ m₀ s₀ e₀ u₀ a m s e u
     → Demand3 (problem_in bytes (taken_in bytes)) (lines_in (take 2048 cells) lens) answer a m s e

@@ -1,21 +1,24 @@
 -- From timed lines to the sheet that is written.
 use Prim.Native.Nat.{ℕ, ◌+◌, ◌≤◌, ◌<◌}
-use mathlib.Core.Path.{◌≡◌, refl, sym, ap, ap₂, ◌∙◌, subst}
+use mathlib.Core.Path.{◌≡◌, refl, sym, ap, ◌∙◌, subst}
 use mathlib.Core.Bool.{Bool, true, false, not, ◌&&◌, false≢true}
-use mathlib.Core.List.{List}
+use mathlib.Core.List.{List, []}
 use native.Mathlib.Omega.{arith}
-use lib.ListN.{length, get_or, take, replicate}
+use lib.ListN.{length, get_or, replicate}
 use lib.Seq.{ext_get_or}
+use Rattle.std.specs.Prelude.{Ok, Err}
+use Rattle.words.specs.Words.{words}
 use Rattle.graph.specs.Counting.{Below}
 use Rattle.graph.proofs.BoolLaws.{denied, granted}
 use Rattle.graph.proofs.Theorem.{order_below}
 use Rattle.graph.proofs.ShopTheorem.{graph}
 use Rattle.plan.specs.Problem.{Problem, Genes}
+use Rattle.plan.specs.Input.{problem_of, genes_of}
 use Rattle.plan.specs.Accepted.{Accepted}
 use Rattle.lines.specs.Lines.{Lines, WellFormed, machine_of}
 use Rattle.intake.specs.Circle.{each}
 use Rattle.intake.proofs.BareShop.{each_at, length-each}
-use Rattle.timing.specs.Timing.{timing_order, counts_for, contradicts, span_at, starts_of, start_of, ends_of, setups_of}
+use Rattle.timing.specs.Timing.{counts_for, contradicts, span_at, start_of, setups_of}
 use Rattle.timing.specs.Placing.{Seated, Timed}
 use Rattle.timing.proofs.LinesShop.{shop, counted}
 use Rattle.timing.proofs.EndLaws.{ends_most}
@@ -23,20 +26,24 @@ use Rattle.timing.proofs.PlacingLaws.{starts_length}
 use Rattle.rows.specs.Rows.{Columns, columns_of, Roomy, Written}
 use Rattle.fitness.specs.Fitness.{fitness_of}
 use Rattle.fitness.specs.Ended.{Ended}
-use lib.Ieee.{Float, to_bits, binary64}
+use lib.Ieee.{to_bits, binary64}
 use lib.Dec.{leb}
 use borrow.Author.Tests.{leb-true}
 use Rattle.reader.specs.Answer.{Reading}
 use Rattle.reader.specs.Answer.{Answer}
 use Rattle.reader.specs.Answer.{Accepted as Read, No}
+use Rattle.reader.specs.Refusals.{refusal}
+use Rattle.reader.specs.declared.refusal.Reason.{Reason}
+use Rattle.reader.specs.declared.refusal.Reason.TheVariants.{Room, Lines as Missed, Contradiction}
+use Rattle.reader.specs.declared.refusal.Refusal.{Refusal}
 use Rattle.plan.specs.Found.{layout_of}
 use Rattle.plan.specs.declared.Layout.{Layout}
 use Rattle.tables.specs.Tabled.{Tabled}
-use Rattle.intake.specs.Intake.{problem_in, genes_in, taken_in}
+use Rattle.intake.specs.Intake.{problem_in, genes_in, taken_in, laid_out}
 use Rattle.genes.specs.Indexed.{lines_of_genes}
 use Rattle.intake.proofs.Soundness.{taken_in_means}
+use Rattle.intake.proofs.TakingLaws.{took, refused_so}
 use Rattle.calls.specs.Asked.{Taken}
-use Rattle.calls.specs.declared.Answer.TheVariants.{Refused, Rows}
 use Rattle.calls.specs.Outcome.{Outcome, no, answer_of, Leaves}
 use Rattle.calls.specs.Timing.{sheet_of, fitness_on, eight_if, seven_unless, timed_lines, timed_if, timed_plan, seven_if, timed_genes, ordered_if, ordered_plan, six_unless, roomy}
 
@@ -80,7 +87,7 @@ written_as {x} {y} {a₀} {m₀} {s₀} {e₀} {u₀} {a} {m} {s} {e} {u} q w = 
 -- ---- number 8, and else a sheet
 
 module _ (p : Problem) (lines : Lines) where
-  pub eight_answer : (b : Bool) → b ≡ true → Refused 8 0 ≡ answer_of (eight_if b p lines)
+  pub eight_answer : (b : Bool) → b ≡ true → Err (refusal Contradiction 0) ≡ answer_of (eight_if b p lines)
   eight_answer true e = refl
   eight_answer false e = absurd (false≢true e)
 
@@ -88,9 +95,9 @@ module _ (p : Problem) (lines : Lines) where
   eight_leaves true e = record { activities = refl; machines = refl; starts = refl; ends = refl; setups = refl }
   eight_leaves false e = absurd (false≢true e)
 
-  pub sheet_answer : (b : Bool) → b ≡ false → {n f : ℕ} → n ≡ p.n → f ≡ to_bits binary64 (fitness_on p lines) → Rows n f ≡ answer_of (eight_if b p lines)
+  pub sheet_answer : (b : Bool) → b ≡ false → {n f : ℕ} → n ≡ p.n → f ≡ to_bits binary64 (fitness_on p lines) → Ok (record { rows = n; bits = f }) ≡ answer_of (eight_if b p lines)
   sheet_answer true e q r = absurd (false≢true (sym e))
-  sheet_answer false e q r = ap₂ Rows q r
+  sheet_answer false e q r = rw (q, r) refl
 
   pub sheet_leaves : (b : Bool) → b ≡ false → {a₀ m₀ s₀ e₀ u₀ a m s e u : List ℕ} → Written (sheet_of p lines) a₀ m₀ s₀ e₀ u₀ a m s e u → Leaves (eight_if b p lines) a₀ m₀ s₀ e₀ u₀ a m s e u
   sheet_leaves true e w = absurd (false≢true (sym e))
@@ -118,7 +125,7 @@ fitness_is p lines t = ap (λ (l : List ℕ). fitness_of p (λ a. get_or l a 0))
 -- ---- number 7
 
 module _ (p : Problem) (lines : Lines) where
-  pub seven_answer : (b : Bool) → b ≡ false → Refused 7 0 ≡ answer_of (seven_unless b p lines)
+  pub seven_answer : (b : Bool) → b ≡ false → Err (refusal Missed 0) ≡ answer_of (seven_unless b p lines)
   seven_answer true e = absurd (false≢true (sym e))
   seven_answer false e = refl
 
@@ -136,7 +143,7 @@ leaves_as {x} {y} {a₀} {m₀} {s₀} {e₀} {u₀} {a} {m} {s} {e} {u} q w = s
 -- ---- number 6
 
 module _ (o : Outcome) where
-  pub six-answer : (b : Bool) → b ≡ false → Refused 6 0 ≡ answer_of (six_unless b o)
+  pub six-answer : (b : Bool) → b ≡ false → Err (refusal Room 0) ≡ answer_of (six_unless b o)
   six-answer true e = absurd (false≢true (sym e))
   six-answer false e = refl
 
@@ -172,8 +179,8 @@ roomy_means cells a m s e u q =
 -- ---- numbers 1 to 5, and else the plan is taken in
 
 module _ (s : List ℕ) (lines : Lines) {r : Reading} (e : r ≡ taken_in s) where
-  pub not_taken : {number place : ℕ} → r.answer ≡ No number place → no number place ≡ timed_plan s lines
-  not_taken {number} {place} a = ap (λ (x : Answer). timed_if x s (taken_in s) lines) (sym a ∙ ap (λ (x : Reading). x.answer) e)
+  pub not_taken : {reason : Reason} {place : ℕ} → r.answer ≡ No reason place → no reason place ≡ timed_plan s lines
+  not_taken a = ap (λ (x : Answer). timed_if x s (taken_in s) lines) (sym a ∙ ap (λ (x : Reading). x.answer) e)
 
   pub taken : r.answer ≡ Read → timed_lines (problem_in s r) lines ≡ timed_plan s lines
   taken a = ap (λ (x : Reading). timed_lines (problem_in s x) lines) e ∙ ap (λ (x : Answer). timed_if x s (taken_in s) lines) (sym a ∙ ap (λ (x : Reading). x.answer) e)
@@ -187,7 +194,7 @@ module _ (s : List ℕ) (lines : Lines) {r : Reading} (e : r ≡ taken_in s) whe
 -- ---- the plan's own lines
 
 module _ (p : Problem) (g : Genes) where
-  pub missed_answer : (b : Bool) → b ≡ true → Refused 7 0 ≡ answer_of (seven_if b p g)
+  pub missed_answer : (b : Bool) → b ≡ true → Err (refusal Missed 0) ≡ answer_of (seven_if b p g)
   missed_answer true e = refl
   missed_answer false e = absurd (false≢true e)
 
@@ -200,11 +207,35 @@ module _ (p : Problem) (g : Genes) where
   dealt_on false e q = ap (λ (l : Lines). eight_if (contradicts p l) p l) q
 
 module _ (s : List ℕ) {r : Reading} (e : r ≡ taken_in s) where
-  pub not_ordered : {number place : ℕ} → r.answer ≡ No number place → no number place ≡ ordered_plan s
-  not_ordered {number} {place} a = ap (λ (x : Answer). ordered_if x s (taken_in s)) (sym a ∙ ap (λ (x : Reading). x.answer) e)
+  pub not_ordered : {reason : Reason} {place : ℕ} → r.answer ≡ No reason place → no reason place ≡ ordered_plan s
+  not_ordered a = ap (λ (x : Answer). ordered_if x s (taken_in s)) (sym a ∙ ap (λ (x : Reading). x.answer) e)
 
   pub ordered : r.answer ≡ Read → timed_genes (problem_in s r) (genes_in s r) ≡ ordered_plan s
   ordered a = ap (λ (x : Reading). timed_genes (problem_in s x) (genes_in s x)) e ∙ ap (λ (x : Answer). ordered_if x s (taken_in s)) (sym a ∙ ap (λ (x : Reading). x.answer) e)
+
+-- ---- what taking in answered
+
+module _ (s : List ℕ) {z : Layout} (e : Ok z ≡ laid_out (taken_in s)) where
+  -- A layout with its tables is what the inner functions ask.
+  pub laid_asks : {table : List ℕ} → Tabled (problem_of (words s) z) table → Taken s z table
+  laid_asks {table} t =
+      let k = took (taken_in s) e in taken_asks s [] refl k.1 k.0 (subst (λ (x : Layout). Tabled (problem_of (words s) x) table) k.1 t)
+
+  pub laid_timed : (lines : Lines) → timed_lines (problem_of (words s) z) lines ≡ timed_plan s lines
+  laid_timed lines =
+      let k = took (taken_in s) e in ap (λ (x : Layout). timed_lines (problem_of (words s) x) lines) k.1 ∙ taken s lines refl k.0
+
+  pub laid_ordered : timed_genes (problem_of (words s) z) (genes_of (words s) z) ≡ ordered_plan s
+  laid_ordered =
+      let k = took (taken_in s) e in ap (λ (x : Layout). timed_genes (problem_of (words s) x) (genes_of (words s) x)) k.1 ∙ ordered s refl k.0
+
+-- A refusal is the answer.
+module _ (s : List ℕ) {f : Refusal} (e : Err f ≡ laid_out (taken_in s)) where
+  pub refused_timed : (lines : Lines) → no f.reason f.place ≡ timed_plan s lines
+  refused_timed lines = not_taken s lines refl (refused_so (taken_in s) e)
+
+  pub refused_ordered : no f.reason f.place ≡ ordered_plan s
+  refused_ordered = not_ordered s refl (refused_so (taken_in s) e)
 
 pub rows_room : (a m s e u : List ℕ) → roomy a m s e u ≡ true → Roomy 128 a m s e u
 rows_room a m s e u q = (roomy_means (replicate 2048 0) a m s e u q).1

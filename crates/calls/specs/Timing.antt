@@ -1,6 +1,6 @@
 -- Document 01, "Numbers on the screen" and "Timing and fitness", for lines that the caller gives: number 6 for a buffer that is too short, then
 -- what the plan is refused for, then 7 and 8; else the rows in timing order and their fitness.
-use Rattle.std.specs.Prelude.{ℕ, zero, suc, ◌≤◌, ◌≡◌, Bool, true, false, ◌&&◌, List, [], leb, Float, length, get_or, take}
+use Rattle.std.specs.Prelude.{ℕ, zero, suc, Bool, true, false, ◌&&◌, List, leb, Float, length, get_or, take}
 use Rattle.reader.specs.Answer.{Reading}
 use Rattle.reader.specs.Answer.{Answer}
 use Rattle.reader.specs.Answer.{Accepted, No}

@@ -18,32 +18,14 @@ use reader::{Reason, Refusal};
 pub fn rows_fit(a: &[usize], m: &[usize], s: &[u64], e: &[u64], u: &[u64]) -> bool
     ensures { result ≡ roomy a.now m.now s.now e.now u.now }
 {
-    if a.len() < 128 {
-        return false;
-    }
-    if m.len() < 128 {
-        return false;
-    }
-    if s.len() < 128 {
-        return false;
-    }
-    if e.len() < 128 {
-        return false;
-    }
-    if u.len() < 128 {
-        return false;
-    }
-    true
+    128 <= a.len() && 128 <= m.len() && 128 <= s.len() && 128 <= e.len() && 128 <= u.len()
 }
 
 // Whether the lines have 2,048 cells, too.
 fn is_roomy(cells: &[usize], a: &[usize], m: &[usize], s: &[u64], e: &[u64], u: &[u64]) -> bool
     ensures { result ≡ (leb 2048 (length cells.now) && roomy a.now m.now s.now e.now u.now) }
 {
-    if cells.len() < 2048 {
-        return false;
-    }
-    rows_fit(a, m, s, e, u)
+    2048 <= cells.len() && rows_fit(a, m, s, e, u)
 }
 
 // Writes the rows of timed lines.

@@ -6,7 +6,6 @@ use Rattle.plan.specs.Input.{problem_of}
 use Rattle.lines.specs.Lines.{lines_in, well_formed}
 use Rattle.lines.proofs.TestLaws.{test_sound}
 use Rattle.calls.proofs.PrefixLaws.{lent}
-use Rattle.graph.proofs.BoolLaws.{denied, granted}
 use Rattle.calls.proofs.AgainLaws.{unfit, fit}
 use Rattle.calls.proofs.again.repeat_known.Goals as goal
 

@@ -5,7 +5,6 @@ use Rattle.plan.specs.Input.{problem_of, genes_of}
 use Rattle.lines.specs.Lines.{lines_in}
 use Rattle.timing.specs.Timing.{contradicts}
 use Rattle.timing.proofs.TimedLaws.{seated}
-use Rattle.graph.proofs.BoolLaws.{denied, granted}
 use Rattle.calls.proofs.SheetLaws.{eight_answer, eight_leaves, sheet_answer, sheet_leaves, not_not, not_false, ended, fitness_is}
 use Rattle.calls.proofs.timed.time_in.Goals as goal
 

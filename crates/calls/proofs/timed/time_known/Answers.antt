@@ -4,7 +4,6 @@ use Rattle.plan.specs.Input.{problem_of}
 use Rattle.lines.specs.Lines.{lines_in, well_formed}
 use Rattle.lines.proofs.TestLaws.{test_sound}
 use Rattle.calls.specs.Outcome.{answer_of}
-use Rattle.graph.proofs.BoolLaws.{denied, granted}
 use Rattle.calls.proofs.SheetLaws.{seven_answer, seven_leaves, timed_on, leaves_as}
 use Rattle.calls.proofs.timed.time_known.Goals as goal
 

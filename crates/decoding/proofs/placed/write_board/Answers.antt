@@ -1,10 +1,8 @@
 -- `decoding::write_board` meets its contract.
-use Prim.Native.Nat.{ℕ}
-use mathlib.Core.Path.{ap}
-use lib.ListN.{length, replicate}
+use mathlib.Core.Path.{refl}
+use lib.ListN.{replicate}
 use Rattle.words.specs.Words.{words}
 use Rattle.plan.specs.Input.{problem_of, genes_of}
-use Rattle.calls.specs.declared.Answer.TheVariants.{Rows}
 use Rattle.calls.proofs.SheetLaws.{roomy_for}
 use Rattle.decoding.proofs.BoardLaws.{laid_few, laid_known, laid_asks, laid-ended, written-leaves}
 use Rattle.decoding.proofs.placed.write_board.Goals as goal
@@ -18,4 +16,4 @@ fitness_bits-requires c = record { placed = (c.requires.taken.0.placed, c.requir
 pub returns : goal.returns
 returns c = let p = problem_of (words c.args.s.now) c.args.z in
     let g = genes_of (words c.args.s.now) c.args.z in
-    record { answer = ap (λ (bits : ℕ). Rows (length c.args.order.now) bits) c.fitness_bits.ensures; rows = written-leaves p g (replicate 128 0) c.args.order.now c.args.begun.now c.args.done.now c.args.prepared.now c.requires.taken.0.accepted.activities.1 c.fill_machines.ensures.machines_after (laid_known c.requires.taken.1 c.requires.taken.0.accepted.activities.1) c.write.ensures }
+    record { answer = rw c.fitness_bits.ensures refl; rows = written-leaves p g (replicate 128 0) c.args.order.now c.args.begun.now c.args.done.now c.args.prepared.now c.requires.taken.0.accepted.activities.1 c.fill_machines.ensures.machines_after (laid_known c.requires.taken.1 c.requires.taken.0.accepted.activities.1) c.write.ensures }
