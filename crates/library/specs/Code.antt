@@ -3,6 +3,7 @@ use Rattle.std.specs.Prelude.{ℕ, List, [], ◌∷◌, Result, Ok, Err}
 use Rattle.reader.specs.Refusals.{number_of}
 use Rattle.reader.specs.declared.refusal.Refusal.{Refusal}
 use Rattle.calls.specs.declared.Sheet.{Sheet}
+use Rattle.sheet.specs.Sheet.{number_of as rule_number}
 use Rattle.sheet.specs.declared.Verdict.{Verdict}
 use Rattle.sheet.specs.declared.Verdict.TheVariants.{Accepted, Bad, Missing}
 use Rattle.improving.specs.declared.Ending.{Ending}
@@ -18,7 +19,7 @@ code_of (Ok sheet) = 0 ∷ 0 ∷ sheet.rows ∷ sheet.bits ∷ []
 abbrev pub check_code : Result Verdict Refusal → List ℕ
 check_code (Err refused) = number_of refused.reason ∷ 0 ∷ refused.place ∷ []
 check_code (Ok Accepted) = 0 ∷ 0 ∷ 0 ∷ []
-check_code (Ok (Bad rule row)) = 0 ∷ rule ∷ row ∷ []
+check_code (Ok (Bad rule row)) = 0 ∷ rule_number rule ∷ row ∷ []
 check_code (Ok (Missing activity)) = 0 ∷ 10 ∷ activity ∷ []
 
 -- An answer of Improve as three numbers: the number and the place of a refusal, and no fitness; or the outcome, 0, and the bits of the best line

@@ -13,7 +13,7 @@ fn check_code(a: Result<Verdict, Refusal>) -> [u64; 3]
     match a {
         Err(refused) => [refused.reason.number() as u64, 0, refused.place as u64],
         Ok(Verdict::Accepted) => [0, 0, 0],
-        Ok(Verdict::Bad(rule, row)) => [0, rule as u64, row as u64],
+        Ok(Verdict::Bad(rule, row)) => [0, rule.number() as u64, row as u64],
         Ok(Verdict::Missing(activity)) => [0, 10, activity as u64],
     }
 }
