@@ -28,7 +28,14 @@ fn category_before(table: &[usize], before: Option<usize>) -> usize
 }
 
 // The setup of an activity on a machine after another: what Setups says of the change, else its own.
-pub fn setup_of(s: &[u8], z: Layout, table: &[usize], a: usize, m: usize, before: Option<usize>) -> u64
+pub fn setup_of(
+    s: &[u8],
+    z: Layout,
+    table: &[usize],
+    a: usize,
+    m: usize,
+    before: Option<usize>,
+) -> u64
     requires placed { Placed z × Accepted (problem_of (words s.now) z) (genes_of (words s.now) z) × Tabled (problem_of (words s.now) z) table.now }
     requires a_lt_activities { (a < z.activities) × (m < z.machines) × Below z.activities (linked before) }
     ensures { result ≡ setup_of (problem_of (words s.now) z) a m before }
