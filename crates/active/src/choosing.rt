@@ -19,15 +19,7 @@ fn sooner(ranks: &[usize], x: Seat, y: Seat) -> Seat
     requires { (x.activity < length ranks.now) × (y.activity < length ranks.now) }
     ensures { result ≡ sooner ranks.now x y }
 {
-    if x.finish < y.finish {
-        return x;
-    }
-    if x.finish != y.finish {
-        return y;
-    }
-    let a = x.activity;
-    let b = y.activity;
-    if ranks[a] < ranks[b] {
+    if (x.finish, ranks[x.activity]) < (y.finish, ranks[y.activity]) {
         return x;
     }
     y
@@ -37,13 +29,7 @@ fn sooner(ranks: &[usize], x: Seat, y: Seat) -> Seat
 fn contends(lead: Seat, x: Seat) -> bool
     ensures { result ≡ contends lead x }
 {
-    if x.machine != lead.machine {
-        return false;
-    }
-    if x.start < lead.finish {
-        return true;
-    }
-    x.activity == lead.activity
+    x.machine == lead.machine && (x.start < lead.finish || x.activity == lead.activity)
 }
 
 // The first of two seats if it contends with the lead and the second doesn't rank before it; else the second.
@@ -51,12 +37,7 @@ fn preferred(ranks: &[usize], lead: Seat, x: Seat, y: Seat) -> Seat
     requires { (x.activity < length ranks.now) × (y.activity < length ranks.now) }
     ensures { result ≡ preferred ranks.now lead x y }
 {
-    if !contends(lead, x) {
-        return y;
-    }
-    let a = x.activity;
-    let b = y.activity;
-    if ranks[a] <= ranks[b] {
+    if contends(lead, x) && ranks[x.activity] <= ranks[y.activity] {
         return x;
     }
     y

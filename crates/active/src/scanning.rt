@@ -62,10 +62,7 @@ fn stops(on: &[usize], settled: &[usize], a: usize) -> bool
     requires { (a < length on.now) × (a < length settled.now) }
     ensures { result ≡ stops_here on.now settled.now a }
 {
-    if settled[a] == 1 {
-        return false;
-    }
-    on[a] < 16
+    settled[a] != 1 && on[a] < 16
 }
 
 // Scans the tasks, each from its next step until it stops: writes those that have a candidate, and answers how many they are.

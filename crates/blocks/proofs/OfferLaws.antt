@@ -19,15 +19,8 @@ use Rattle.ranking.proofs.KeepLaws.{stays_out}
 use Rattle.ranking.proofs.StreamLaws.{with_append}
 use Rattle.path.specs.Placing.{placed}
 use Rattle.blocks.specs.Estimates.{estimate_of}
-use Rattle.blocks.specs.Weighing.{Reordering}
 use Rattle.blocks.specs.BlockMoves.{block, shifts}
 use Rattle.blocks.specs.Scanning.{offered, Rateable, Offers, own_moves}
-
--- ---- a stretch between two positions
-
-pub between : {line : List ℕ} {from to first last : ℕ} → from < length line → to < length line → first ≡ min from to → last ≡ max from to
-    → Reordering line from to first last
-between f t e g = record { leaves = f; enters = t; rising = omega arith; within = omega arith }
 
 -- ---- lists of moves
 

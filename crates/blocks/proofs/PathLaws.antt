@@ -1,6 +1,6 @@
 -- A path that names no activity twice: its activities stand at different positions, the arrays give the same blocks as the lines, and each
 -- block's positions are on its line.
-use Prim.Native.Nat.{ℕ, ◌+◌, ◌-◌, ◌^◌, ◌≤◌, ◌<◌}
+use Prim.Native.Nat.{ℕ, ◌-◌, ◌^◌, ◌≤◌, ◌<◌}
 use mathlib.Core.Path.{◌≡◌, refl, sym, ap, ◌∙◌}
 use mathlib.Core.Bool.{cond}
 use mathlib.Core.List.{List, [], ◌∷◌, ◌++◌}
@@ -12,7 +12,7 @@ use Rattle.plan.specs.Problem.{Problem}
 use Rattle.lines.specs.Lines.{Lines, machine_of, position_of}
 use Rattle.moves.specs.Moves.{line_of}
 use Rattle.blocks.specs.Weighing.{Estimable}
-use Rattle.blocks.specs.BlockMoves.{Block, block, closed, goes_on', longer, begun, blocks_from, blocks_by, blocks, once, block_moves}
+use Rattle.blocks.specs.BlockMoves.{Block, closed, goes_on', longer, begun, blocks_from, blocks_by, blocks, block_moves}
 use Rattle.blocks.specs.Scanning.{Scanned, Run, Pathed, Rateable, Searched, own_moves_of_all}
 use Rattle.blocks.proofs.EveryLaws.{Every, none, also}
 use Rattle.blocks.proofs.OnceLaws.{Clear, Apart, alone, apart, once-all}

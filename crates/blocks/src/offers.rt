@@ -14,24 +14,6 @@ use crate::stretch::estimate;
 use moves::Move;
 use ranking::{Rated, Three};
 
-fn lesser(a: usize, b: usize) -> usize
-    ensures { result ≡ min a b }
-{
-    if a < b {
-        return a;
-    }
-    b
-}
-
-fn larger(a: usize, b: usize) -> usize
-    ensures { result ≡ max a b }
-{
-    if a < b {
-        return b;
-    }
-    a
-}
-
 // The estimate of a stretch; 0 where all moves are kept, which are then not sorted.
 fn weigh(
     all: bool,
@@ -50,8 +32,8 @@ fn weigh(
     if all {
         return 0;
     }
-    let first = lesser(from, to);
-    let last = larger(from, to);
+    let first = from.min(to);
+    let last = from.max(to);
     estimate(
         line, from, to, first, last, table, starts, ends, tail, heads,
     )
@@ -104,18 +86,15 @@ fn offer_shifts(
     ensures { Offers all m (shifts m to from (end - from)) table.now starts.now ends.now tail.now line.now (ranked three) (ranked result) × (result.count ≤ 3) }
 {
     let mut best = three;
-    let mut at = from;
-    while at < end {
-        let here = at;
-        at += 1;
-        let length = weigh(all, line, here, to, table, starts, ends, tail, heads);
+    for at in from..end {
+        let length = weigh(all, line, at, to, table, starts, ends, tail, heads);
         if !ranking::enters(best, length, 0) {
             continue;
         }
         let rated = Rated {
             length,
             time: 0,
-            made: Move::Shift(m, here, to),
+            made: Move::Shift(m, at, to),
         };
         best = ranking::keep(best, rated);
     }

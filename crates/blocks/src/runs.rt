@@ -8,10 +8,7 @@ fn follows(machines: &[usize], places: &[usize], a: usize, b: usize) -> bool
     requires { (a < length machines.now) × (b < length machines.now) × (length places.now ≡ length machines.now) × (get_or places.now a 0 < 2 ^ 32) }
     ensures { result ≡ (eqb (get_or machines.now b 0) (get_or machines.now a 0) && eqb (get_or places.now b 0) (suc (get_or places.now a 0))) }
 {
-    if machines[b] != machines[a] {
-        return false;
-    }
-    places[b] == places[a] + 1
+    machines[b] == machines[a] && places[b] == places[a] + 1
 }
 
 // Where the run ends that begins at place i of the path.

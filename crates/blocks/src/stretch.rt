@@ -11,16 +11,6 @@ ghost use Rattle.path.specs.Following.{Addable};
 ghost use Rattle.blocks.specs.Estimates.{end_before, after_at, estimate_of};
 ghost use Rattle.blocks.specs.Weighing.{Weighed, Low, Lined, Reordering, Known, Headed, Estimable, HeadsHeld};
 
-
-fn greater(a: u64, b: u64) -> u64
-    ensures { result ≡ max a b }
-{
-    if a < b {
-        return b;
-    }
-    a
-}
-
 // The later of a time and of the linked one's end.
 fn later_end(link: Option<usize>, ends: &[u64], first: u64) -> u64
     requires { Below (length ends.now) (linked link) }
@@ -29,26 +19,7 @@ fn later_end(link: Option<usize>, ends: &[u64], first: u64) -> u64
     let Some(x) = link else {
         return first;
     };
-    greater(first, ends[x])
-}
-
-// An activity's span plus its tail.
-fn span_and_tail(starts: &[u64], ends: &[u64], tail: &[u64], x: usize) -> u64
-    requires { (x < length tail.now) × Addable (length tail.now) starts.now ends.now tail.now }
-    ensures { result ≡ get_or ends.now x 0 - get_or starts.now x 0 + get_or tail.now x 0 }
-{
-    ends[x] - starts[x] + tail[x]
-}
-
-// The greater of a time and of the linked one's span plus tail.
-fn later_rest(link: Option<usize>, starts: &[u64], ends: &[u64], tail: &[u64], first: u64) -> u64
-    requires { Below (length tail.now) (linked link) × Addable (length tail.now) starts.now ends.now tail.now }
-    ensures { result ≡ greatest (λ x. get_or ends.now x 0 - get_or starts.now x 0 + get_or tail.now x 0) (linked link) first }
-{
-    let Some(x) = link else {
-        return first;
-    };
-    greater(first, span_and_tail(starts, ends, tail, x))
+    first.max(ends[x])
 }
 
 // The head of an activity that its line lets go at `ready`.
@@ -56,7 +27,7 @@ fn head_of(table: &[usize], ends: &[u64], ready: u64, x: usize) -> u64
     requires { Known table.now ends.now x }
     ensures { (p : Problem) → Tabled p table.now → x < p.n → result ≡ greatest (λ b. get_or ends.now b 0) (linked (task_pred p x)) (max (p.release x) ready) }
 {
-    let free = greater(bounds::release_of(table, x), ready);
+    let free = bounds::release_of(table, x).max(ready);
     later_end(tables::before_of(table, x), ends, free)
 }
 
@@ -65,7 +36,7 @@ fn tail_of(table: &[usize], starts: &[u64], ends: &[u64], tail: &[u64], next: u6
     requires { Known table.now tail.now x × Addable (length tail.now) starts.now ends.now tail.now }
     ensures { (p : Problem) → Tabled p table.now → x < p.n → length tail.now ≡ p.n → result ≡ greatest (λ b. get_or ends.now b 0 - get_or starts.now b 0 + get_or tail.now b 0) (linked (task_succ p x)) next }
 {
-    later_rest(
+    path::after_link(
         tables::next_of(table, tail.len(), x),
         starts,
         ends,
@@ -92,7 +63,8 @@ fn after_at(line: &[usize], starts: &[u64], ends: &[u64], tail: &[u64], at: usiz
     ensures { (order : List ℕ) → result ≡ after_at (placed order starts.now ends.now) tail.now line.now at }
 {
     if at < line.len() {
-        return span_and_tail(starts, ends, tail, line[at]);
+        let x = line[at];
+        return ends[x] - starts[x] + tail[x];
     }
     0
 }
@@ -113,13 +85,11 @@ fn fill_heads(
     ensures { (p : Problem) (order : List ℕ) → Weighed p table.now starts.now ends.now → Lined p.n line.now → HeadsHeld p (placed order starts.now ends.now) (shifted line.now from to) (end_before ends.now line.now first) first last heads.new }
 {
     let mut ready = end_before(line, ends, first);
-    let mut k = first;
-    while k <= last {
+    for k in first..last + 1 {
         let x = moves::moved(line, from, to, k);
         let head = head_of(table, ends, ready, x);
         heads[k] = head;
         ready = head + (ends[x] - starts[x]);
-        k += 1;
     }
 }
 
@@ -142,12 +112,10 @@ fn longest(
 {
     let mut next = after_at(line, starts, ends, tail, last + 1);
     let mut most: u64 = 0;
-    let mut at = last + 1;
-    while first < at {
-        at -= 1;
+    for at in (first..last + 1).rev() {
         let x = moves::moved(line, from, to, at);
         let rest = ends[x] - starts[x] + tail_of(table, starts, ends, tail, next, x);
-        most = greater(most, heads[at] + rest);
+        most = most.max(heads[at] + rest);
         next = rest;
     }
     most

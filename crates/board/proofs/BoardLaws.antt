@@ -8,7 +8,7 @@ use mathlib.Core.List.{List, [], ◌∷◌, ◌++◌}
 use native.Mathlib.Omega.{arith}
 use native.Mathlib.Numerals.{add-one}
 use borrow.Author.Tests.{eqb-false}
-use lib.ListN.{length, get_or, set, take, replicate, length-set, length-append, length-replicate}
+use lib.ListN.{length, get_or, set, take, length-set, length-append, length-replicate}
 use lib.Seq.{get_or-set_same, get_or-set_other, take-suc-set}
 use Rattle.graph.specs.Counting.{count_of, hit, Below}
 use Rattle.graph.specs.Links.{linked}
@@ -166,11 +166,6 @@ sit_is p t task count order starts ends setups lines steps settled h e =
       settled = set settled t.activity 1;
     } in
     ap₂ written (ap (λ (k : ℕ). take k (set order count t.activity)) (add-one count) ∙ take-suc-set order count t.activity h) e
-
--- What `clear` leaves is the empty board.
-pub clear_is : (n : ℕ) {starts ends setups lines steps settled : List ℕ} → starts ≡ replicate n 0 → ends ≡ replicate n 0 → setups ≡ replicate n 0
-    → lines ≡ replicate 16 n → steps ≡ replicate 32 n → settled ≡ replicate n 0 → (order : List ℕ) → board_of 0 order starts ends setups lines steps settled ≡ empty_board n
-clear_is n {starts} {ends} {setups} {lines} {steps} {settled} a b c d e f order = rw (a, b, c, d, e, f)
 
 -- A cell for everything that a seat is written into, on a sound board.
 pub sit_room : {n count : ℕ} {order starts ends setups lines steps settled : List ℕ} → Sound n (board_of count order starts ends setups lines steps settled)

@@ -2,7 +2,7 @@
 // settled. Cells by activity are 0 until it is placed; the last placed are held as numbers, one that is no activity standing for none.
 #![tactic(auto)]
 
-ghost use Rattle.std.specs.Prelude.{◌≡◌, ℕ, ◌+◌, ◌^◌, ◌<◌, List, length, get_or, set, replicate};
+ghost use Rattle.std.specs.Prelude.{◌≡◌, ℕ, ◌+◌, ◌^◌, ◌<◌, List, length, get_or, set};
 ghost use Rattle.words.specs.Words.{words};
 ghost use Rattle.graph.specs.Counting.{Below};
 ghost use Rattle.graph.specs.Links.{linked};
@@ -119,28 +119,6 @@ pub fn settle(settled: &mut [usize], a: usize)
     settled[a] = 1;
 }
 
-// Sets all to one number.
-fn fill(cells: &mut [usize], v: usize)
-    ensures { cells.new ≡ replicate (length cells.old) v }
-{
-    let mut i = 0;
-    while i < cells.len() {
-        cells[i] = v;
-        i += 1;
-    }
-}
-
-// Sets all to 0.
-fn clear_times(times: &mut [u64])
-    ensures { times.new ≡ replicate (length times.old) 0 }
-{
-    let mut i = 0;
-    while i < times.len() {
-        times[i] = 0;
-        i += 1;
-    }
-}
-
 // Clears the cells of a board for n activities: none placed, none settled.
 pub fn clear(
     n: usize,
@@ -154,10 +132,10 @@ pub fn clear(
     requires { (length starts.old ≡ n) × (length ends.old ≡ n) × (length setups.old ≡ n) × (length lines.old ≡ 16) × (length steps.old ≡ 32) × (length settled.old ≡ n) }
     ensures { (order : List ℕ) → board_of 0 order starts.new ends.new setups.new lines.new steps.new settled.new ≡ empty_board n }
 {
-    clear_times(starts);
-    clear_times(ends);
-    clear_times(setups);
-    fill(lines, n);
-    fill(steps, n);
-    fill(settled, 0);
+    starts.fill(0);
+    ends.fill(0);
+    setups.fill(0);
+    lines.fill(n);
+    steps.fill(n);
+    settled.fill(0);
 }

@@ -28,20 +28,8 @@ fn put_rows(list: &[usize], order: &mut [usize]) -> usize
     ensures { Listed list.now order.old order.new result }
 {
     let count = list.len();
-    tables::copy(list, &mut order[..count]);
+    order[..count].copy_from_slice(list);
     count
-}
-
-// Copies the times of a sheet.
-fn put_times(from: &[u64], to: &mut [u64])
-    requires { length to.old ≡ length from.now }
-    ensures { to.new ≡ from.now }
-{
-    let mut i = 0;
-    while i < from.len() {
-        to[i] = from[i];
-        i += 1;
-    }
 }
 
 // Places in order, and answers the sheet.
@@ -113,9 +101,9 @@ fn better_in(
     let usual = in_order_sheet(s, z, table, ways, taken, starts, ends, setups);
     let tight = active_sheet(s, z, table, chosen, begun, done, prepared);
     if tight.fitness < usual.fitness {
-        put_times(begun, starts);
-        put_times(done, ends);
-        put_times(prepared, setups);
+        starts.copy_from_slice(begun);
+        ends.copy_from_slice(done);
+        setups.copy_from_slice(prepared);
         let rows = tight.rows;
         return put_rows(&chosen[..rows], order);
     }

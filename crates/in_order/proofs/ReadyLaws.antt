@@ -8,8 +8,8 @@ use native.Mathlib.Omega.{arith}
 use native.Mathlib.Numerals.{add-one}
 use borrow.Author.Tests.{eq-eqb, ne_eqb}
 use lib.Dec.{eqb}
-use lib.ListN.{length, get_or, set, drop, length-set}
-use lib.Seq.{drop-cons, drop-length}
+use lib.ListN.{length, get_or, set, take, drop, length-set, length-drop}
+use lib.Seq.{drop-cons, drop-length, get_or-drop, take_all}
 use Rattle.graph.specs.Counting.{count_of}
 use Rattle.graph.proofs.CountingLaws.{hit-eq}
 use Rattle.plan.specs.Problem.{Problem}
@@ -33,6 +33,21 @@ pub none_left : {A : Type 0} (f : List ℕ → A) (l : List ℕ) (i : ℕ) → i
 none_left f l i h k =
     let e : i ≡ length l = omega arith in
     ap f (ap (λ (j : ℕ). drop j l) e ∙ drop-length l)
+
+-- A list from one place on, taken as a slice.
+module _ (l : List ℕ) (from : ℕ) where
+  pub rest_is : take (length l - from) (drop from l) ≡ drop from l
+  rest_is = take_all (length l - from) (drop from l) (omega (arith, length-drop from l))
+
+  module _ (i : ℕ) (h : i < length (take (length l - from) (drop from l))) where
+    pub rest_within : from + i < length l
+    rest_within = omega (arith, h, ap length rest_is, length-drop from l)
+
+    pub rest_at : get_or (take (length l - from) (drop from l)) i 0 ≡ get_or l (from + i) 0
+    rest_at = ap (λ (x : List ℕ). get_or x i 0) rest_is ∙ get_or-drop from l i 0
+
+  pub rest_passed : {i : ℕ} → from ≤ length l → i ≤ length (take (length l - from) (drop from l)) → length (take (length l - from) (drop from l)) ≤ i → from + i ≡ length l
+  rest_passed h k m = omega (arith, ap length rest_is, length-drop from l)
 
 -- ---- `mark`
 

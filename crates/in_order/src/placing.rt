@@ -76,10 +76,7 @@ fn place_ready(
     ensures order { Listed (sit_all (problem_of (words s.now) z) (genes_of (words s.now) z) ready.now (empty_board z.activities)).order order.old order.new result }
 {
     let mut count = 0;
-    let mut i = 0;
-    while i < ready.len() {
-        let a = ready[i];
-        i += 1;
+    for &a in ready {
         let Some(m) = plan::assigned(s, z, a) else {
             board::settle(settled, a);
             continue;

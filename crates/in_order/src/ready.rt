@@ -8,17 +8,13 @@ ghost use Rattle.genes.specs.Held.{Listed};
 ghost use Rattle.in_order.specs.InOrder.{any_pending, is_ready, can_come, first_ready, ready_order};
 ghost use Rattle.in_order.specs.Waiting.{taken_before, step_pending, Told, Stepwise, Naming, Flagged, Waiting, Ordered};
 
-
 // Marks all of the order as pending.
 fn mark(activities: &[usize], pending: &mut [usize])
     requires { Below (length pending.old) activities.now }
     ensures { pending.new ≡ marked activities.now 1 pending.old }
 {
-    let mut i = 0;
-    while i < activities.len() {
-        let a = activities[i];
+    for &a in activities {
         pending[a] = 1;
-        i += 1;
     }
 }
 
@@ -27,13 +23,10 @@ fn any_pending(list: &[usize], pending: &[usize]) -> bool
     requires { Below (length pending.now) list.now }
     ensures { result ≡ any_pending pending.now list.now }
 {
-    let mut i = 0;
-    while i < list.len() {
-        let b = list[i];
+    for &b in list {
         if pending[b] == 1 {
             return true;
         }
-        i += 1;
     }
     false
 }
@@ -83,29 +76,29 @@ fn skip_taken(activities: &[usize], pending: &[usize], from: usize) -> usize
     requires { Below (length pending.now) activities.now × (from ≤ length activities.now) }
     ensures { result ≡ from + taken_before pending.now (drop from activities.now) }
 {
-    let mut i = from;
-    while i < activities.len() {
+    for i in from..activities.len() {
         let a = activities[i];
         if pending[a] == 1 {
             return i;
         }
-        i += 1;
     }
-    i
+    activities.len()
 }
 
 // The first of the order, from one place on, that is pending and ready.
-fn first_ready(table: &[usize], activities: &[usize], pending: &[usize], from: usize) -> Option<usize>
+fn first_ready(
+    table: &[usize],
+    activities: &[usize],
+    pending: &[usize],
+    from: usize,
+) -> Option<usize>
     requires { Waiting table.now activities.now pending.now × (from ≤ length activities.now) }
     ensures { (p : Problem) → Naming p table.now → Below p.n activities.now → ((a : ℕ) → 0 < count_of a activities.now → Told p pending.now a) → result ≡ first_ready p pending.now (drop from activities.now) }
 {
-    let mut i = from;
-    while i < activities.len() {
-        let a = activities[i];
+    for &a in &activities[from..] {
         if can_come(table, pending, a) {
             return Some(a);
         }
-        i += 1;
     }
     None
 }
@@ -120,15 +113,13 @@ pub fn ready_order(table: &[usize], activities: &[usize], order: &mut [usize]) -
     let mut pending = [0usize; 128];
     mark(activities, &mut pending);
     let mut front = 0;
-    let mut taken = 0;
-    while taken < activities.len() {
+    for taken in 0..activities.len() {
         front = skip_taken(activities, &pending, front);
         let Some(a) = first_ready(table, activities, &pending, front) else {
             return taken;
         };
         order[taken] = a;
         pending[a] = 0;
-        taken += 1;
     }
-    taken
+    activities.len()
 }

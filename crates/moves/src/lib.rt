@@ -36,7 +36,7 @@ fn swap_on(machine: usize, at: usize, cells: &mut [usize], lens: &[usize; 16])
 {
     let start = 128 * machine;
     let end = start + lens[machine];
-    line::swap(&mut cells[start..end], at);
+    cells[start..end].swap(at, at + 1);
 }
 
 // An activity goes to another position of its line.

@@ -1,47 +1,6 @@
 // One machine's line, lent as the part of the cells that it uses.
 ghost use Rattle.std.specs.Prelude.{◌≡◌, [], ◌∷◌, ◌++◌, ◌+◌, ◌-◌, ◌≤◌, ◌<◌, length, get_or, take};
-ghost use Rattle.moves.specs.Moves.{swap_at, shifted, remove_at, insert_at};
-
-// The activity at a position and the next one change places.
-pub fn swap(line: &mut [usize], at: usize)
-    requires { at + 1 < length line.old }
-    ensures { line.new ≡ swap_at line.old at }
-{
-    let next = at + 1;
-    let a = line[at];
-    line[at] = line[next];
-    line[next] = a;
-}
-
-// Towards the front: those between move one place back.
-fn shift_down(line: &mut [usize], from: usize, to: usize)
-    requires { (from < length line.old) × (to ≤ from) }
-    ensures { line.new ≡ shifted line.old from to }
-{
-    let a = line[from];
-    let mut k = from;
-    while to < k {
-        let j = k - 1;
-        line[k] = line[j];
-        k = j;
-    }
-    line[k] = a;
-}
-
-// Towards the back: those between move one place to the front.
-fn shift_up(line: &mut [usize], from: usize, to: usize)
-    requires { (to < length line.old) × (from ≤ to) }
-    ensures { line.new ≡ shifted line.old from to }
-{
-    let a = line[from];
-    let mut k = from;
-    while k < to {
-        let j = k + 1;
-        line[k] = line[j];
-        k = j;
-    }
-    line[k] = a;
-}
+ghost use Rattle.moves.specs.Moves.{shifted, remove_at, insert_at};
 
 // The activity at `from` is taken out and put in again at `to`.
 pub fn shift(line: &mut [usize], from: usize, to: usize)
@@ -49,9 +8,9 @@ pub fn shift(line: &mut [usize], from: usize, to: usize)
     ensures { line.new ≡ shifted line.old from to }
 {
     if to < from {
-        shift_down(line, from, to);
+        line[to..=from].rotate_right(1);
     } else {
-        shift_up(line, from, to);
+        line[from..=to].rotate_left(1);
     }
 }
 
@@ -61,8 +20,7 @@ pub fn take_out(line: &mut [usize], at: usize)
     requires { at < length line.old }
     ensures { line.new ≡ remove_at line.old at ++ (get_or line.old at 0 ∷ []) }
 {
-    let last = line.len() - 1;
-    shift_up(line, at, last);
+    line[at..].rotate_left(1);
 }
 
 // Puts an activity in. The line is lent with one cell more than it has.
@@ -72,7 +30,7 @@ pub fn put_in(line: &mut [usize], at: usize, a: usize)
 {
     let last = line.len() - 1;
     line[last] = a;
-    shift_down(line, last, at);
+    line[at..].rotate_right(1);
 }
 
 // The activity at position k once the one at `from` went to `to`. The line itself stays as it is: the

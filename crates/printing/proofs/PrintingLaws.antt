@@ -1,7 +1,7 @@
 -- The pieces of what is printed, put together.
 use Prim.Native.Nat.{ℕ, suc, ◌+◌, ◌*◌, ◌^◌, ◌≤◌, ◌<◌}
-use mathlib.Core.Path.{◌≡◌, refl, sym, ap, ◌∙◌}
-use mathlib.Core.List.{List, [], ◌∷◌, ◌++◌}
+use mathlib.Core.Path.{◌≡◌, ◌∙◌}
+use mathlib.Core.List.{List, [], ◌∷◌}
 use native.Mathlib.Numerals.{add-one}
 use native.Mathlib.Omega.{arith}
 use lib.ListN.{length, get_or}
@@ -58,12 +58,6 @@ unfolding rows_to
 no_rows line at a m s e u h = record { within = omega arith; fits = h; so_far = put_none line at (omega arith); short = omega arith }
 
 module _ {line₀ : List ℕ} {at : ℕ} {a m s e u line : List ℕ} {next i : ℕ} (k : Rows line₀ at a m s e u line next i) where
-  pub sized : length line ≡ length line₀
-  sized = put_long k.so_far
-
-  pub room : i < length a → next + 105 ≤ length line
-  room h = omega (arith, sized, k.fits, k.short)
-
   module _ (h : i < length a) {line₁ : List ℕ} {place : ℕ} (p : Put line next (row_text (get_or a i 0) (get_or m i 0) (get_or s i 0) (get_or e i 0) (get_or u i 0)) line₁ place) (q : place ≤ next + 105) where
     one_more : Put line₀ at (rows_to a m s e u (suc i)) line₁ place
     unfolding rows_to
@@ -71,6 +65,3 @@ module _ {line₀ : List ℕ} {at : ℕ} {a m s e u line : List ℕ} {next i : �
 
     pub row_next : Rows line₀ at a m s e u line₁ place (i + 1)
     row_next = record { within = omega arith; fits = k.fits; so_far = rw (add-one i) one_more; short = omega (arith, k.short) }
-
-  pub all-rows : length a ≤ i → Put line₀ at (rows_to a m s e u (length a)) line next × (next ≤ at + 105 * length a)
-  all-rows h = let same : i ≡ length a = omega (arith, k.within) in (rw (sym same) k.so_far, omega (arith, k.short))

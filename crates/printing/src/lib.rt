@@ -70,8 +70,7 @@ fn put_rows(
     ensures short { result ≤ at + 105 * length activities.now }
 {
     let mut next = at;
-    let mut i = 0;
-    while i < activities.len() {
+    for i in 0..activities.len() {
         next = put_row(
             line,
             next,
@@ -81,7 +80,6 @@ fn put_rows(
             ends[i],
             setups[i],
         );
-        i += 1;
     }
     next
 }

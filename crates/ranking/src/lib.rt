@@ -51,29 +51,16 @@ pub fn none() -> Three
 fn goes_at(count: usize, place: usize, length: u64, time: u64, held: Rated) -> bool
     ensures { result ≡ goes_at count place length time held }
 {
-    if count <= place {
-        return true;
-    }
-    if length < held.length {
-        return true;
-    }
-    if length == held.length {
-        return time < held.time;
-    }
-    false
+    count <= place || (length, time) < (held.length, held.time)
 }
 
 // A move of this rank would be held: a place is free, or one that is held falls out for it.
 pub fn enters(three: Three, length: u64, time: u64) -> bool
     ensures { result ≡ enters three length time }
 {
-    if goes_at(three.count, 0, length, time, three.first) {
-        return true;
-    }
-    if goes_at(three.count, 1, length, time, three.second) {
-        return true;
-    }
-    goes_at(three.count, 2, length, time, three.third)
+    goes_at(three.count, 0, length, time, three.first)
+        || goes_at(three.count, 1, length, time, three.second)
+        || goes_at(three.count, 2, length, time, three.third)
 }
 
 // One more held, at most three.
@@ -81,10 +68,7 @@ fn grown(count: usize) -> usize
     requires { count ≤ 3 }
     ensures { result ≡ min (suc count) 3 }
 {
-    if count < 3 {
-        return count + 1;
-    }
-    3
+    (count + 1).min(3)
 }
 
 // One more move is offered: it stands after those of equal rank, and the fourth falls out.

@@ -1,5 +1,5 @@
 -- What is offered to the three, one loop at a time. Assumes nothing.
-use mathlib.Core.Path.{◌≡◌, refl, sym, ap, ◌∙◌}
+use mathlib.Core.Path.{◌≡◌, sym, ap, ◌∙◌}
 use mathlib.Core.Bool.{Bool, true, false, cond}
 use mathlib.Core.List.{List, [], ◌∷◌, ◌++◌}
 use Prim.Native.Nat.{ℕ, suc, ◌+◌, ◌≤◌, ◌<◌}
@@ -18,9 +18,6 @@ pub record Offering (f : ℕ → List Rated) (list : List ℕ) (held : List Rate
   pub within : i ≤ length list
   pub few : best.count ≤ 3
   pub left : with_all (ranked best) (gathered f (drop i list)) ≡ with_all held (gathered f list)
-
-pub offering_begin : (f : ℕ → List Rated) (list : List ℕ) (three : Three) → three.count ≤ 3 → Offering f list (ranked three) three 0
-offering_begin f list three h = record { within = omega arith; few = h; left = refl }
 
 module _ {f : ℕ → List Rated} {list : List ℕ} {held : List Rated} {best : Three} {i : ℕ} (k : Offering f list held best i) where
   pub offering_again : i < length list → {next : Three} → ranked next ≡ with_all (ranked best) (f (get_or list i 0)) → next.count ≤ 3 → Offering f list held next (i + 1)

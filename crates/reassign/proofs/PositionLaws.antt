@@ -22,9 +22,6 @@ pub record Leading (test : ℕ → Bool) (line : List ℕ) (i : ℕ) : Type 0 wh
   pub within : i ≤ length line
   pub left : i + leading test (drop i line) ≡ leading test line
 
-pub leading_begin : (test : ℕ → Bool) (line : List ℕ) → Leading test line 0
-leading_begin test line = record { within = omega arith; left = omega arith }
-
 module _ {test : ℕ → Bool} {line : List ℕ} {i : ℕ} (k : Leading test line i) where
   next : i < length line → i + cond (test (get_or line i 0)) (suc (leading test (drop (suc i) line))) 0 ≡ leading test line
   unfolding leading
@@ -36,7 +33,7 @@ module _ {test : ℕ → Bool} {line : List ℕ} {i : ℕ} (k : Leading test lin
   pub leading_again : i < length line → test (get_or line i 0) ≡ true → Leading test line (i + 1)
   leading_again h e = record { within = omega arith; left = let q = rw e at (next h) in rw (add-one i) (omega arith) }
 
-  pub leading_end : length line ≤ i → i ≡ leading test line
+  pub leading_end : length line ≤ i → length line ≡ leading test line
   unfolding leading
   leading_end h =
       let e : i ≡ length line = omega (arith, k.within) in
@@ -71,35 +68,30 @@ before_below n line (suc i) b = at_below n line i b
 
 -- ---- the least length
 
--- the least so far, with what is left up to the last, gives the least of all
+-- the least so far, with what is left from the next up to the last, gives the least of all
 pub record Choosing (f : ℕ → ℕ) (first last place long i : ℕ) : Type 0 where
-  pub from : first ≤ i
-  pub within : i ≤ last
   pub is : long ≡ f place
-  pub left : least f place (suc i) (last - i) ≡ least_of f first last
-
-pub choosing_begin : (f : ℕ → ℕ) (first last long : ℕ) → first ≤ last → long ≡ f first → Choosing f first last first long first
-choosing_begin f first last long h e = record { from = omega arith; within = h; is = e; left = refl }
+  pub left : least f place i (suc last - i) ≡ least_of f first last
 
 module _ {f : ℕ → ℕ} {first last place long i : ℕ} (k : Choosing f first last place long i) where
-  pub chosen : last ≤ i → ◌≡◌ {A = Spot} (record { length = long; place = place }) (spot_of f first last)
+  pub chosen : last + 1 ≤ i → ◌≡◌ {A = Spot} (record { length = long; place = place }) (spot_of f first last)
   unfolding least
   chosen h =
-      let z : last - i ≡ 0 = omega arith in
+      let z : suc last - i ≡ 0 = omega arith in
       let e : place ≡ least_of f first last = rw z at k.left in
       rw (k.is, e)
 
-  module _ (h : i < last) where
-    step : least f (cond (ltb (f (suc i)) (f place)) (suc i) place) (suc (suc i)) (last - suc i) ≡ least_of f first last
+  module _ (h : i < last + 1) where
+    step : least f (cond (ltb (f i) (f place)) i place) (suc i) (suc last - suc i) ≡ least_of f first last
     unfolding least
-    step = let e : last - i ≡ suc (last - suc i) = omega arith in rw e at k.left
+    step = let e : suc last - i ≡ suc (suc last - suc i) = omega arith in rw e at k.left
 
-    pub shorter : {x : ℕ} → x ≡ f (i + 1) → x < long → Choosing f first last (i + 1) x (i + 1)
+    pub shorter : {x : ℕ} → x ≡ f i → x < long → Choosing f first last i x (i + 1)
     shorter e l =
-        let t : ltb (f (suc i)) (f place) ≡ true = lt-ltb (f (suc i)) (f place) (omega (arith, k.is, e, ap f (add-one i))) in
-        record { from = omega (arith, k.from); within = omega arith; is = e; left = rw (add-one i) (rw t at step) }
+        let t : ltb (f i) (f place) ≡ true = lt-ltb (f i) (f place) (omega (arith, k.is, e)) in
+        record { is = e; left = rw (add-one i) (rw t at step) }
 
-    pub no_shorter : {x : ℕ} → x ≡ f (i + 1) → long ≤ x → Choosing f first last place long (i + 1)
+    pub no_shorter : {x : ℕ} → x ≡ f i → long ≤ x → Choosing f first last place long (i + 1)
     no_shorter e l =
-        let t : ltb (f (suc i)) (f place) ≡ false = le-ltb (f (suc i)) (f place) (omega (arith, k.is, e, ap f (add-one i))) in
-        record { from = omega (arith, k.from); within = omega arith; is = k.is; left = rw (add-one i) (rw t at step) }
+        let t : ltb (f i) (f place) ≡ false = le-ltb (f i) (f place) (omega (arith, k.is, e)) in
+        record { is = k.is; left = rw (add-one i) (rw t at step) }

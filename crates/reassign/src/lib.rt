@@ -52,13 +52,11 @@ pub fn is_flexible(table: &[usize], n: usize) -> bool
     requires { Counted table.now n }
     ensures { (p : Problem) → Tabled p table.now → n ≡ p.n → p.n ≤ 128 → result ≡ flexible p }
 {
-    let mut a = 0;
-    while a < n {
+    for a in 0..n {
         let machines = tables::candidates_of(table, a);
         if 2 <= machines.len() {
             return true;
         }
-        a += 1;
     }
     false
 }
@@ -71,7 +69,7 @@ fn head_of(table: &[usize], ends: &[u64], a: usize) -> u64
     let released = bounds::release_of(table, a);
     let there = bounds::arrival(tables::before_of(table, a), ends, 0);
     let named = timing::after_named(tables::named_by(table, a), ends, released);
-    bounds::later(named, there)
+    named.max(there)
 }
 
 // The greatest span plus tail of the step after an activity and of those waiting for it.
@@ -189,10 +187,7 @@ fn offer_candidates(
     ensures count_bound { result.count ≤ 3 }
 {
     let mut best = three;
-    let mut i = 0;
-    while i < candidates.len() {
-        let to = candidates[i];
-        i += 1;
+    for &to in candidates {
         if to == leaving.machine {
             continue;
         }
@@ -250,12 +245,10 @@ fn best_on_path(
     ensures count_bound { result.count ≤ 3 }
 {
     let mut best = ranking::none();
-    let mut i = 0;
-    while i < path.len() {
+    for &a in path {
         best = offer_activity(
-            table, cells, lens, machines, places, starts, ends, tail, path[i], best,
+            table, cells, lens, machines, places, starts, ends, tail, a, best,
         );
-        i += 1;
     }
     best
 }

@@ -11,14 +11,12 @@ pub fn leading_ended(line: &[usize], ends: &[u64], start: u64) -> usize
     requires { Below (length ends.now) line.now }
     ensures { result ≡ leading (λ x. leb (get_or ends.now x 0) start) line.now }
 {
-    let mut i = 0;
-    while i < line.len() {
-        if start < ends[line[i]] {
+    for (i, &x) in line.iter().enumerate() {
+        if start < ends[x] {
             return i;
         }
-        i += 1;
     }
-    i
+    line.len()
 }
 
 // How many lead the line that start before an end.
@@ -26,14 +24,12 @@ pub fn leading_begun(line: &[usize], starts: &[u64], end: u64) -> usize
     requires { Below (length starts.now) line.now }
     ensures { result ≡ leading (λ x. ltb (get_or starts.now x 0) end) line.now }
 {
-    let mut i = 0;
-    while i < line.len() {
-        if end <= starts[line[i]] {
+    for (i, &x) in line.iter().enumerate() {
+        if end <= starts[x] {
             return i;
         }
-        i += 1;
     }
-    i
+    line.len()
 }
 
 // Who stands at a position.
@@ -62,7 +58,7 @@ fn length_at(line: &[usize], starts: &[u64], ends: &[u64], tail: &[u64], way: Wa
     ensures { result ≡ length_at (unordered starts.now ends.now) tail.now line.now way i }
 {
     let free = bounds::arrival(line_before(line, i), ends, 0);
-    let head = bounds::later(way.head, free);
+    let head = way.head.max(free);
     let rest = path::after_link(line_at(line, i), starts, ends, tail, way.rest);
     head + way.time + rest
 }
@@ -82,9 +78,7 @@ pub fn best_position(
 {
     let mut place = first;
     let mut length = length_at(line, starts, ends, tail, way, first);
-    let mut i = first;
-    while i < last {
-        i += 1;
+    for i in first + 1..last + 1 {
         let here = length_at(line, starts, ends, tail, way, i);
         if here < length {
             place = i;

@@ -5,10 +5,9 @@ use mathlib.Core.List.{List, [], ◌∷◌, ◌++◌}
 use native.Mathlib.Numerals.{add-one}
 use native.Mathlib.Omega.{arith}
 use lib.ListN.{length, get_or, take, length-append}
-use lib.Seq.{length-take-le, take_all}
+use lib.Seq.{length-take-le}
 use Rattle.words.specs.Text.{written}
 use Rattle.words.specs.Words.{bytes4, bytes_of, put_word}
-use Rattle.words.proofs.TextLaws.{length-written}
 use Rattle.words.proofs.WordLaws.{length_bytes, bytes_append}
 use Rattle.writing.specs.Writing.{Put}
 use Rattle.writing.proofs.WritingLaws.{written-append, written_none}
@@ -35,9 +34,6 @@ unfolding low_words bytes_of
 none_stored buf k numbers h = record { within = omega arith; fits = h; so_far = sym (written_none buf (4 * k) (omega arith)) }
 
 module _ {buf₀ : List ℕ} {k : ℕ} {numbers buf : List ℕ} {i : ℕ} (st : Stored buf₀ k numbers buf i) where
-  pub sized : length buf ≡ length buf₀
-  sized = ap length st.so_far ∙ length-written buf₀ (4 * k) (bytes_of (low_words (take i numbers)))
-
   pub stored_next : i < length numbers → {buf₁ : List ℕ} {x : ℕ} → x ≡ get_or numbers i 0 % 2 ^ 32 → buf₁ ≡ put_word buf (k + i) x → Stored buf₀ k numbers buf₁ (i + 1)
   unfolding put_word bytes_of
   stored_next h {buf₁} {x} e p =
@@ -54,9 +50,6 @@ module _ {buf₀ : List ℕ} {k : ℕ} {numbers buf : List ℕ} {i : ℕ} (st : 
             ∙ written-append buf₀ (4 * k) front (bytes4 (get_or numbers i 0 % 2 ^ 32)) (omega (arith, long, st.fits))
             ∙ ap (written buf₀ (4 * k)) (sym (bytes_append (low_words (take i numbers)) (get_or numbers i 0 % 2 ^ 32 ∷ [])) ∙ ap bytes_of (sym (low_next numbers i h) ∙ ap (λ (j : ℕ). low_words (take j numbers)) (sym (add-one i))));
       }
-
-  pub all_stored : length numbers ≤ i → buf ≡ written buf₀ (4 * k) (bytes_of (low_words numbers))
-  all_stored h = st.so_far ∙ ap (λ (l : List ℕ). written buf₀ (4 * k) (bytes_of (low_words l))) (take_all i numbers h)
 
 -- ---- sections
 

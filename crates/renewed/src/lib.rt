@@ -11,10 +11,8 @@ fn put_words(buf: &mut [u8], k: usize, numbers: &[usize])
     requires { 4 * (k + length numbers.now) ≤ length buf.old }
     ensures { buf.new ≡ written buf.old (4 * k) (bytes_of (low_words numbers.now)) }
 {
-    let mut i = 0;
-    while i < numbers.len() {
-        words::put_word(buf, k + i, (numbers[i] % 0x1_0000_0000) as u32);
-        i += 1;
+    for (i, &number) in numbers.iter().enumerate() {
+        words::put_word(buf, k + i, (number % 0x1_0000_0000) as u32);
     }
 }
 

@@ -4,7 +4,7 @@ use Prim.Native.Nat.{ℕ, zero, suc, ◌+◌, ◌*◌, ◌≤◌, ◌<◌}
 use mathlib.Core.Path.{◌≡◌, refl, sym, ap, ◌∙◌, subst}
 use mathlib.Core.Bool.{true, false}
 use mathlib.Core.List.{List}
-use mathlib.Core.Logic.{◌⊎◌, ⊎_elim}
+use mathlib.Core.Logic.{⊎_elim}
 use native.Mathlib.Omega.{arith}
 use borrow.Author.Tests.{lt-ltb, ltb-false, leb-true, eqb-true, eqb-false, eq-eqb, ne_eqb}
 use lib.Dec.{eqb}
@@ -17,7 +17,7 @@ use Rattle.graph.specs.Links.{linked}
 use Rattle.graph.proofs.CountingLaws.{hit-eq}
 use Rattle.plan.specs.Problem.{Problem}
 use Rattle.tables.specs.Tabled.{task_pred}
-use Rattle.sheet.specs.Rows.{rows_in, activity_in, machine_in, start_in, end_in, first, subject_of, is_of, is_on, activity_of, is_row, is_row_on, first_row, row_before}
+use Rattle.sheet.specs.Rows.{rows_in, activity_in, machine_in, start_in, end_in, subject_of, is_of, is_on, activity_of, is_row, is_row_on, first_row, row_before}
 use Rattle.sheet.specs.Sheet.{ends_by, span_after, rowless, check_sheet}
 use Rattle.sheet.specs.Lawful.{Precedes, span_from, Lawful}
 use Rattle.sheet.specs.declared.Subject.{Subject}

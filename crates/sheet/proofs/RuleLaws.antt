@@ -107,9 +107,6 @@ pub record Seeking (test : ℕ → Bool) (n a : ℕ) : Type 0 where
   pub within : a ≤ n
   pub left : first test (n - a) a ≡ first test n 0
 
-pub all_left : (test : ℕ → Bool) (n : ℕ) → first test (n - 0) 0 ≡ first test n 0
-all_left test n = let e : n - 0 ≡ n = omega arith in ap (λ (k : ℕ). first test k 0) e
-
 module _ {test : ℕ → Bool} {n a : ℕ} (w : Seeking test n a) where
   pub found : a < n → test a ≡ true → Missing a ≡ missing_if (ltb (first test n 0) n) (first test n 0)
   found h e =

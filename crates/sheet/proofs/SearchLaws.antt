@@ -119,15 +119,6 @@ module _ {n R : ℕ} {l : List ℤ} where
       }
 
   module _ {firsts : List ℕ} {i : ℕ} (f : Filling n R l firsts i) where
-    pub filled : i ≤ 0 → FirstRows n R l firsts
-    filled h =
-        let z : i ≡ 0 = omega arith in
-        let y : rows_in l - 0 ≡ rows_in l = omega arith in
-        record {
-          sized = f.sized;
-          at = λ b k. f.at b k ∙ ap (λ (x : ℕ). first (is_row n R l b) (rows_in l - x) x) z ∙ ap (λ (x : ℕ). first (is_row n R l b) x 0) y;
-        }
-
     module _ (h : 0 < i) where
       -- a row of another activity leaves the first from here on as it was
       passed : (b : ℕ) → b < 128 → is_row n R l b (i - 1) ≡ false → get_or firsts b 0 ≡ first (is_row n R l b) (rows_in l - (i - 1)) (i - 1)

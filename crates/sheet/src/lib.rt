@@ -40,8 +40,7 @@ fn check_rows(s: &[u8], z: Layout, table: &[usize], rows: &[i64], firsts: &[usiz
     let machines = z.machines;
     let count = rows::row_count(rows);
     let mut last_on = [count; 16];
-    let mut i = 0;
-    while i < count {
+    for i in 0..count {
         let Subject::Known(a, m) = rows::subject_of(rows, n, machines, i) else {
             return Verdict::Bad(1, i);
         };
@@ -50,7 +49,6 @@ fn check_rows(s: &[u8], z: Layout, table: &[usize], rows: &[i64], firsts: &[usiz
             return Verdict::Bad(rule, i);
         }
         last_on[m] = i;
-        i += 1;
     }
     rules::missing(firsts, n, count)
 }

@@ -58,9 +58,7 @@ pub fn first_rows(rows: &[i64], n: usize, machines: usize) -> [usize; 128]
 {
     let count = row_count(rows);
     let mut firsts = [count; 128];
-    let mut i = count;
-    while 0 < i {
-        i -= 1;
+    for i in (0..count).rev() {
         let Subject::Known(a, _) = subject_of(rows, n, machines, i) else {
             continue;
         };

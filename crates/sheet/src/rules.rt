@@ -94,12 +94,10 @@ fn after_named(rows: &[i64], firsts: &[usize], named: &[usize], i: usize) -> boo
     requires { (4 * i + 3 < length rows.now) × (length firsts.now ≡ 128) × ((b : ℕ) → b < 128 → get_or firsts.now b 0 < 2 ^ 60) × Below 128 named.now }
     ensures { result ≡ all (λ b. ends_by rows.now i (get_or firsts.now b 0)) named.now }
 {
-    let mut k = 0;
-    while k < named.len() {
-        if !rows::ends_by(rows, i, firsts[named[k]]) {
+    for &b in named {
+        if !rows::ends_by(rows, i, firsts[b]) {
             return false;
         }
-        k += 1;
     }
     true
 }
@@ -146,12 +144,10 @@ pub fn missing(firsts: &[usize], n: usize, count: usize) -> Verdict
     requires { n ≤ length firsts.now }
     ensures { result ≡ missing_if (ltb (first (λ a. eqb (get_or firsts.now a 0) count) n 0) n) (first (λ a. eqb (get_or firsts.now a 0) count) n 0) }
 {
-    let mut a = 0;
-    while a < n {
+    for a in 0..n {
         if firsts[a] == count {
             return Verdict::Missing(a);
         }
-        a += 1;
     }
     Verdict::Accepted
 }

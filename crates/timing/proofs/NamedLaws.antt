@@ -1,6 +1,6 @@
 -- One turn of the loop over those that are named: the greatest of what is left and of the latest so far stays the same.
 use Prim.Native.Nat.{ℕ, ◌+◌, ◌≤◌, ◌<◌, max}
-use mathlib.Core.Path.{◌≡◌, refl, sym, ap, ◌∙◌}
+use mathlib.Core.Path.{◌≡◌, sym, ap, ◌∙◌}
 use mathlib.Core.List.{List, []}
 use native.Mathlib.Omega.{arith}
 use native.Mathlib.Numerals.{add-one}
@@ -24,6 +24,9 @@ module _ {f : ℕ → ℕ} {named : List ℕ} {first latest i : ℕ} (k : Lookin
     next : greatest f named first ≡ greatest f (drop (i + 1) named) (max latest (f (get_or named i 0)))
     unfolding greatest
     next = k.left ∙ rw (drop-cons named i 0 h, add-one i)
+
+    pub greater : Looking f named first (max latest (f (get_or named i 0))) (i + 1)
+    greater = record { within = omega arith; left = next }
 
     pub later : latest < f (get_or named i 0) → Looking f named first (f (get_or named i 0)) (i + 1)
     later l =

@@ -29,13 +29,8 @@ pub fn after_named(named: &[usize], ends: &[u64], first: u64) -> u64
     ensures { result ≡ greatest (λ q. get_or ends.now q 0) named.now first }
 {
     let mut latest = first;
-    let mut i = 0;
-    while i < named.len() {
-        let end = ends[named[i]];
-        i += 1;
-        if latest < end {
-            latest = end;
-        }
+    for &q in named {
+        latest = latest.max(ends[q]);
     }
     latest
 }
@@ -45,11 +40,8 @@ fn add_line_waits(waits: &[usize], before: &[usize], counts: &mut [usize])
     requires { (length before.now ≡ length waits.now) × (length counts.old ≡ length waits.now) × ((a : ℕ) → a < length waits.now → get_or waits.now a 0 < 2 ^ 32) }
     ensures { counts.new ≡ with_line waits.now before.now (length waits.now) }
 {
-    let mut a = 0;
-    while a < waits.len() {
-        let more = line_waits(before, a);
-        counts[a] = waits[a] + more;
-        a += 1;
+    for (a, &wait) in waits.iter().enumerate() {
+        counts[a] = wait + line_waits(before, a);
     }
 }
 

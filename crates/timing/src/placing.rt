@@ -28,7 +28,14 @@ pub fn machine_before(step: Option<usize>, machines: &[usize]) -> usize
 }
 
 // How long an activity takes on a machine after another.
-pub fn span_after(s: &[u8], z: Layout, table: &[usize], a: usize, m: usize, line: Option<usize>) -> u64
+pub fn span_after(
+    s: &[u8],
+    z: Layout,
+    table: &[usize],
+    a: usize,
+    m: usize,
+    line: Option<usize>,
+) -> u64
     requires placed { Placed z × Accepted (problem_of (words s.now) z) (genes_of (words s.now) z) × Tabled (problem_of (words s.now) z) table.now }
     requires a_lt_activities { (a < z.activities) × (m < z.machines) × Below z.activities (linked line) }
     ensures { result ≡ span_of (problem_of (words s.now) z) a m (setup_of (problem_of (words s.now) z) a m line) }
@@ -39,7 +46,14 @@ pub fn span_after(s: &[u8], z: Layout, table: &[usize], a: usize, m: usize, line
 
 // The greatest of an activity's release, the end of the one before on its machine, the end of the step before plus the way from its machine,
 // and the ends of all that it names.
-pub fn start_after(table: &[usize], a: usize, line: Option<usize>, step: Option<usize>, way: u64, ends: &[u64]) -> u64
+pub fn start_after(
+    table: &[usize],
+    a: usize,
+    line: Option<usize>,
+    step: Option<usize>,
+    way: u64,
+    ends: &[u64],
+) -> u64
     requires { Bound table.now ends.now a × Ending ends.now line × Ending ends.now step × (way < 2 ^ 32) }
     ensures { (p : Problem) → Tabled p table.now → a < p.n → p.n ≤ 128 → result ≡ start_after p a line step way (λ q. get_or ends.now q 0) }
 {
@@ -51,7 +65,15 @@ pub fn start_after(table: &[usize], a: usize, line: Option<usize>, step: Option<
 }
 
 // How long an activity takes on a machine after another. Where there are no Setups entries (`own`) that is its own span.
-fn span_on(s: &[u8], z: Layout, table: &[usize], own: bool, a: usize, m: usize, line: Option<usize>) -> u64
+fn span_on(
+    s: &[u8],
+    z: Layout,
+    table: &[usize],
+    own: bool,
+    a: usize,
+    m: usize,
+    line: Option<usize>,
+) -> u64
     requires placed { Placed z × Accepted (problem_of (words s.now) z) (genes_of (words s.now) z) × Tabled (problem_of (words s.now) z) table.now × (own ≡ true → get_or (words s.now) z.at.setups 0 ≡ 0) }
     requires a_lt_activities { (a < z.activities) × (m < z.machines) × Below z.activities (linked line) }
     ensures { result ≡ span_of (problem_of (words s.now) z) a m (setup_of (problem_of (words s.now) z) a m line) }
@@ -107,11 +129,8 @@ pub fn fill_setups(
     requires well_formed { WellFormed z.activities z.machines (lines_in cells.now lens) × Seated z.activities (lines_in cells.now lens) before.now machines.now × (length setups.old ≡ z.activities) }
     ensures { setups.new ≡ setups_of (problem_of (words s.now) z) (lines_in cells.now lens) }
 {
-    let mut a = 0;
-    while a < setups.len() {
+    for (a, &m) in machines.iter().enumerate() {
         let line = graph::link_of(before, a);
-        let m = machines[a];
         setups[a] = bounds::setup_of(s, z, table, a, m, line);
-        a += 1;
     }
 }

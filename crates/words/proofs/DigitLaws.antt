@@ -38,10 +38,7 @@ spelled-last b n (a ∷ ds) d = spelled-last b (b * n + worth a) ds d
 shorter : (b k n : ℕ) → 0 < b → n < b ^ suc k → n / b < b ^ k
 shorter b k n p h = (div-lt_iff_lt-mul p).1 (rw (pow-suc b k) at h)
 
--- Digits put into a line from the last to the first: all are left to put at the end, one fewer at each place before it, and none at the first.
-pub digits_ahead : (b : ℕ) (line : List ℕ) (at k n : ℕ) {i : ℕ} → i ≡ at + k → sets line at (last_digits b (i - at) n) ≡ sets line at (last_digits b k n)
-digits_ahead b line at k n {i} e = let all : i - at ≡ k = omega arith in rw all
-
+-- Digits put into a line from the last to the first: one fewer is left to put at each place before the last, and none at the first.
 pub digit_put : (b : ℕ) (line : List ℕ) (at i n : ℕ) → at < i
     → sets (set line (i - 1) (digit (n % b))) at (last_digits b (i - 1 - at) (n / b)) ≡ sets line at (last_digits b (i - at) n)
 unfolding last_digits

@@ -1,16 +1,14 @@
--- Laws of signed words: the values at 0 and at both ends, the word given back, the clamp by the word alone, and what the machine's differences
--- with -1 come to.
-use Prim.Native.Nat.{ℕ, zero, suc, ◌-◌, ◌<◌, ◌≤◌, ◌^◌}
+-- Laws of signed words: the values at 0 and at both ends, the word given back, and the clamp by the word alone.
+use Prim.Native.Nat.{ℕ, ◌-◌, ◌<◌, ◌≤◌, ◌^◌}
 use mathlib.Core.Path.{◌≡◌, refl, ◌∙◌, ap}
 use mathlib.Core.Bool.{Bool, true, false, cond}
 use native.Mathlib.Omega.{arith}
 use borrow.Author.Tests.{lt-ltb, le-ltb, ltb-true, ltb-false}
 use lib.Dec.{T, ltb}
-use lib.IntN.{ℤ, pos, negsuc, nat_abs, ◌-ℤ◌}
+use lib.IntN.{ℤ, pos, negsuc}
 use lib.Signed.{mag, lt_z, non_neg}
 use mir.Syntax.{w32}
-use mir.Val.{SFits, to_z}
-use mir.Facts.{to_z_pos}
+use mir.Val.{SFits}
 use Rattle.words.specs.Signed.{signed_word, unsigned_word, clamp}
 
 pub word_zero : signed_word 0 ≡ pos 0
@@ -68,37 +66,8 @@ pub signed_unsigned : (z : ℤ) → mag z < 2 ^ 31 → signed_word (unsigned_wor
 signed_unsigned (pos n) h = signed_low n h
 signed_unsigned (negsuc n) h = signed_high (2 ^ 32 - 1 - n) (omega arith) ∙ ap negsuc (omega arith)
 
--- ---- the difference -1 - z, which takes the numbers from 0 on to those below 0 and back
-
-pub flip_pos : (n : ℕ) → negsuc 0 -ℤ pos n ≡ negsuc n
-flip_pos zero = refl
-flip_pos (suc n) = ap negsuc (omega arith)
-
-pub flip_neg : (n : ℕ) → negsuc 0 -ℤ negsuc n ≡ pos n
-flip_neg n = rw (le-ltb (suc n) 1 (omega arith)) (ap pos (omega arith))
-
-pub flip_fits : (z : ℤ) → SFits w32 z → SFits w32 (negsuc 0 -ℤ z)
-flip_fits (pos n) f = rw (flip_pos n) (record { sfits = f.sfits })
-flip_fits (negsuc n) f = rw (flip_neg n) (record { sfits = f.sfits })
-
-pub flip_high : (w : ℕ) → 2 ^ 31 ≤ w → w < 2 ^ 32 → negsuc 0 -ℤ to_z w32 (2 ^ 32 - 1 - w) ≡ signed_word w
-flip_high w h l = rw (to_z_pos w32 {n = 2 ^ 32 - 1 - w} (omega arith), flip_pos (2 ^ 32 - 1 - w), signed_high w h)
-
-pub high_fits : (w : ℕ) → 2 ^ 31 ≤ w → w < 2 ^ 32 → SFits w32 (negsuc 0 -ℤ to_z w32 (2 ^ 32 - 1 - w))
-high_fits w h l = rw (flip_high w h l) (signed_fits w l)
-
-pub flip_not_negative : (z : ℤ) → lt_z z (pos 0) ≡ true → T (non_neg (negsuc 0 -ℤ z))
-flip_not_negative (pos n) e = let h : n < 0 = ltb-true n 0 e in absurd (omega arith)
-flip_not_negative (negsuc n) e = rw (flip_neg n) tt
-
-pub flip_word : (z : ℤ) → lt_z z (pos 0) ≡ true → 2 ^ 32 - 1 - nat_abs (negsuc 0 -ℤ z) ≡ unsigned_word z
-flip_word (pos n) e = let h : n < 0 = ltb-true n 0 e in absurd (omega arith)
-flip_word (negsuc n) e = rw (flip_neg n)
+-- ---- a number that is not below 0
 
 pub not_negative : (z : ℤ) → lt_z z (pos 0) ≡ false → T (non_neg z)
 not_negative (pos n) e = tt
 not_negative (negsuc n) e = let o : ◌≡◌ {A = ℕ} 0 1 = cc in absurd (omega arith)
-
-pub word_itself : (z : ℤ) → T (non_neg z) → nat_abs z ≡ unsigned_word z
-word_itself (pos n) t = refl
-word_itself (negsuc n) t = absurd t

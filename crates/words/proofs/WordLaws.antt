@@ -1,18 +1,28 @@
 -- Laws of stored words: how many there are, which four bytes each is made of, what a put word changes, and that bytes and words give each
 -- other back.
-use Prim.Native.Nat.{ℕ, zero, suc, ◌+◌, ◌*◌, ◌-◌, ◌/◌, ◌%◌, ◌<◌, ◌≤◌, ◌^◌}
+use Prim.Native.Nat.{ℕ, zero, suc, ◌+◌, ◌*◌, ◌/◌, ◌%◌, ◌<◌, ◌≤◌, ◌^◌}
 use mathlib.Core.Path.{◌≡◌, refl, sym, ◌∙◌, ap, ap₂}
 use mathlib.Core.Logic.{◌≢◌}
 use mathlib.Core.Bool.{Bool, true, false}
 use mathlib.Core.List.{List, [], ◌∷◌, ◌++◌, append_assoc}
 use native.Mathlib.Omega.{arith}
-use native.Mathlib.Numerals.{add-one, add-two, add-three}
-use borrow.Author.Tests.{ltb-true, ltb-false}
+use borrow.Author.Tests.{ltb-true, ltb-false, le-leb}
 use lib.Dec.{ltb}
-use lib.ListN.{length, get_or, set, drop, length-append, get_or-eq_default}
-use lib.Seq.{sets, sets-eq, set_out, get_or-set_same, get_or-set_other}
+use lib.ListN.{length, get_or, set, take, drop, length-append, get_or-eq_default}
+use lib.Seq.{sets, drop-drop, sets-eq, set_out, get_or-set_same, get_or-set_other}
+use borrow.Rule.Slice.PartMut.{put_mid}
+use Rattle.std.specs.Int.{w32, to_le_bytes, from_le_bytes}
+use Rattle.words.specs.Text.{written}
 use Rattle.words.specs.Words.{le32, bytes4, words, bytes_of, put_word, Below}
 use Rattle.words.proofs.TextLaws.{written-fits, written_full, length-written}
+
+-- ---- std's bytes of a word
+
+pub bytes_low : (w : ℕ) → w < 2 ^ 32 → to_le_bytes w32 w ≡ bytes4 w
+bytes_low w h = ap (λ (d : ℕ). w % 256 ∷ w / 256 % 256 ∷ w / 65536 % 256 ∷ d ∷ []) (omega arith)
+
+pub word_low : (a b c d : ℕ) → from_le_bytes w32 (a ∷ b ∷ c ∷ d ∷ []) ≡ le32 a b c d
+word_low a b c d = omega arith
 
 -- ---- reading
 
@@ -128,13 +138,12 @@ module _ (s : List ℕ) (k w : ℕ) where
   unfolding put_word
   put_past h = written_full s (4 * k) (bytes4 w) (omega arith)
 
-  -- Four stores put a word: each place and each byte comes with an equation, so that the code's own numbers fit.
-  pub put_stored : {p q r t a b c d : ℕ} → k < length s / 4
-      → p ≡ 4 * k → q ≡ 4 * k + 1 → r ≡ 4 * k + 2 → t ≡ 4 * k + 3
-      → a ≡ w % 256 → b ≡ w / 256 % 256 → c ≡ w / 65536 % 256 → d ≡ w / 16777216
-      → set (set (set (set s p a) q b) r c) t d ≡ put_word s k w
-  put_stored h ep eq er et ea eb ec ed =
-      rw (ep, eq, er, et, ea, eb, ec, ed, add-one (4 * k), add-two (4 * k), add-three (4 * k)) (sym (put_fits h))
+  -- A word's four bytes over a part put it.
+  pub put_part : {part : List ℕ} {n : ℕ} → k < length s / 4 → n ≡ 4 → part ≡ bytes4 w → put_mid (4 * k) n s part ≡ put_word s k w
+  unfolding put_word written
+  put_part h en ep =
+      rw (en, ep, le-leb (4 * k + 4) (length s) (omega arith))
+      (ap (λ (l : List ℕ). take (4 * k) s ++ (bytes4 w ++ l)) (drop-drop 4 (4 * k) s) ∙ sym (append_assoc (take (4 * k) s) (bytes4 w) (drop (4 * k + 4) s)))
 
   pub length_put : length (put_word s k w) ≡ length s
   unfolding put_word

@@ -9,20 +9,14 @@ const NEGATIVE_FROM: u32 = 0x8000_0000;
 pub fn signed_word(w: u32) -> i32
     ensures { result ≡ signed_word w }
 {
-    if w < NEGATIVE_FROM {
-        return w as i32;
-    }
-    -1 - ((0xFFFF_FFFF - w) as i32)
+    w.cast_signed()
 }
 
 // The word that stands for a signed number.
 pub fn unsigned_word(v: i32) -> u32
     ensures { result ≡ unsigned_word v }
 {
-    if v < 0 {
-        return 0xFFFF_FFFF - ((-1 - v) as u32);
-    }
-    v as u32
+    v.cast_unsigned()
 }
 
 // The signed number that a word stands for, 0 where it is negative.

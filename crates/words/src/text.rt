@@ -25,10 +25,8 @@ pub fn put_decimal(line: &mut [u8], at: usize, v: u64) -> usize
         return at;
     }
     let end = at + n;
-    let mut i = end;
     let mut rest = v;
-    while at < i {
-        i -= 1;
+    for i in (at..end).rev() {
         line[i] = last_decimal(rest);
         rest /= 10;
     }
@@ -44,10 +42,8 @@ pub fn put_hex(line: &mut [u8], at: usize, v: u64) -> usize
         return at;
     }
     let end = at + 16;
-    let mut i = end;
     let mut rest = v;
-    while at < i {
-        i -= 1;
+    for i in (at..end).rev() {
         line[i] = last_hex(rest);
         rest /= 16;
     }
@@ -58,10 +54,7 @@ pub fn put_hex(line: &mut [u8], at: usize, v: u64) -> usize
 fn has_room(room: usize, at: usize, n: usize) -> bool
     ensures { result ≡ fits room at n }
 {
-    if room < n {
-        return false;
-    }
-    at <= room - n
+    n <= room && at <= room - n
 }
 
 // How many decimal digits v has.

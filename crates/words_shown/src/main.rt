@@ -30,12 +30,8 @@ fn show_stored<W: Write>(out: &mut W) -> io::Result<()> {
     show(out, words::word(&bytes, 0) as u64)?;
     show_hex(out, words::word(&bytes, 1) as u64)?;
     show(out, words::word(&bytes, 2) as u64)?;
-    show(out, wide(bytes[4]))?;
-    show(out, wide(bytes[12]))
-}
-
-fn wide(b: u8) -> u64 {
-    b as u64
+    show(out, bytes[4] as u64)?;
+    show(out, bytes[12] as u64)
 }
 
 fn show_signs<W: Write>(out: &mut W) -> io::Result<()> {
@@ -99,9 +95,5 @@ fn show_signed<W: Write>(out: &mut W, v: i32) -> io::Result<()> {
 fn magnitude(v: i32) -> u64
     ensures { result ≡ nat_abs v }
 {
-    if v < 0 {
-        let below = (-1 - v) as u64;
-        return below + 1;
-    }
-    v as u64
+    v.unsigned_abs() as u64
 }

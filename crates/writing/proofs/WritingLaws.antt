@@ -1,12 +1,13 @@
 -- Texts put one after the other are one text put: how a line is put together from its pieces.
-use Prim.Native.Nat.{ℕ, zero, suc, ◌+◌, ◌≤◌, ◌<◌}
-use mathlib.Core.Path.{◌≡◌, refl, sym, ap, ap₂, ◌∙◌, subst}
-use mathlib.Core.List.{List, [], ◌∷◌, ◌++◌}
+use Prim.Native.Nat.{ℕ, suc, ◌+◌, ◌-◌, ◌≤◌}
+use mathlib.Core.Path.{◌≡◌, sym, ap, ap₂, ◌∙◌, subst}
+use mathlib.Core.List.{List, [], ◌∷◌, ◌++◌, append_assoc}
 use native.Mathlib.Nat.{add-zero}
-use native.Mathlib.Numerals.{add-one}
 use native.Mathlib.Omega.{arith}
-use lib.ListN.{length, get_or, set, take, length-append}
-use lib.Seq.{sets, length-take-le, take_all}
+use lib.ListN.{length, set, take, drop, length-append}
+use lib.Seq.{sets, drop-drop}
+use borrow.Author.Tests.{le-leb}
+use borrow.Rule.Slice.PartMut.{put_mid}
 use Rattle.words.specs.Text.{written, place_after}
 use Rattle.words.proofs.TextLaws.{written-fits, place_after-fits, length-written}
 use Rattle.writing.specs.Writing.{Put}
@@ -35,10 +36,6 @@ written-append line at t u h =
 pub written_none : (line : List ℕ) (at : ℕ) → at ≤ length line → written line at [] ≡ line
 written_none line at h = written-fits line at [] (omega (arith, add-zero at))
 
--- A byte stored is a text of one byte put.
-pub written_one : (line : List ℕ) (at b : ℕ) → at < length line → set line at b ≡ written line at (b ∷ [])
-written_one line at b h = sym (written-fits line at (b ∷ []) (omega arith))
-
 -- ---- a text and the place after it
 
 pub put_none : (line : List ℕ) (at : ℕ) → at ≤ length line → Put line at [] line at
@@ -63,38 +60,14 @@ pub put_of : {line₀ text line : List ℕ} {at place : ℕ} → at + length tex
     → Put line₀ at text line place
 put_of {line₀} {text} {line} {at} h e p = record { holds = e; ends = p ∙ place_after-fits line₀ at text h }
 
--- ---- a text put byte by byte
+-- ---- a text copied over a part of its length
 
-take_next : (text : List ℕ) (i : ℕ) → i < length text → take (suc i) text ≡ take i text ++ get_or text i 0 ∷ []
-take_next [] i h = absurd (omega arith)
-take_next (b ∷ text) zero h = refl
-take_next (b ∷ text) (suc i) h = ap (λ (l : List ℕ). b ∷ l) (take_next text i (omega arith))
-
-pub record Putting (line₀ : List ℕ) (at : ℕ) (text line : List ℕ) (i : ℕ) : Type 0 where
-  pub within : i ≤ length text
-  pub fits : at + length text ≤ length line₀
-  pub so_far : line ≡ written line₀ at (take i text)
-
-pub none_put : (line : List ℕ) (at : ℕ) (text : List ℕ) → at + length text ≤ length line → Putting line at text line 0
-none_put line at text h = record { within = omega arith; fits = h; so_far = sym (written_none line at (omega arith)) }
-
-module _ {line₀ : List ℕ} {at : ℕ} {text line : List ℕ} {i : ℕ} (k : Putting line₀ at text line i) where
-  pub sized : length line ≡ length line₀
-  sized = ap length k.so_far ∙ length-written line₀ at (take i text)
-
-  pub put_next : i < length text → {x : ℕ} → x ≡ get_or text i 0 → Putting line₀ at text (set line (at + i) x) (i + 1)
-  put_next h {x} e =
-      let t = length-take-le i text (omega arith) in
-      record {
-        within = omega arith;
-        fits = k.fits;
-        so_far =
-            ap₂ (λ (l : List ℕ) (y : ℕ). set l (at + i) y) k.so_far e
-            ∙ ap (λ (j : ℕ). set (written line₀ at (take i text)) (at + j) (get_or text i 0)) (sym t)
-            ∙ written_one (written line₀ at (take i text)) (at + length (take i text)) (get_or text i 0) (omega (arith, t, length-written line₀ at (take i text), k.fits))
-            ∙ written-append line₀ at (take i text) (get_or text i 0 ∷ []) (omega (arith, t, k.fits))
-            ∙ ap (written line₀ at) (sym (take_next text i h) ∙ ap (λ (j : ℕ). take j text) (sym (add-one i)));
-      }
-
-  pub all_put : length text ≤ i → {place : ℕ} → place ≡ at + length text → Put line₀ at text line place
-  all_put h e = record { holds = k.so_far ∙ ap (written line₀ at) (take_all i text h); ends = e }
+pub put_over : (line : List ℕ) (at : ℕ) (text : List ℕ) {part : List ℕ} {end : ℕ} → at + length text ≤ length line → end ≡ at + length text → part ≡ text
+    → Put line at text (put_mid at (end - at) line part) end
+unfolding written
+put_over line at text {part} {end} h q e =
+    let long : end - at ≡ length text = omega arith in
+    record {
+      holds = rw (le-leb _ _ h, e, long) (ap (λ (l : List ℕ). take at line ++ (text ++ l)) (drop-drop (length text) at line) ∙ sym (append_assoc (take at line) text (drop (at + length text) line)));
+      ends = q;
+    }

@@ -1,5 +1,4 @@
 -- `blocks::offer_blocks` meets its contract. The loop's invariant: offering what is left gives the best three of all.
-use Prim.Native.Nat.{◌-◌}
 use mathlib.Core.Path.{refl, ◌∙◌}
 use native.Mathlib.Omega.{arith}
 use Rattle.lines.specs.Lines.{lines_in}

@@ -22,4 +22,4 @@ returns c p starts tabled known few = let f : ℕ → ℕ = λ x. get_or c.args.
     let step = task_pred p c.args.a in
     greatest_then f (p.predecessors c.args.a) step (p.release c.args.a)
     (c.after_named-named.ensures ∙ ap₂ (greatest f) (c.named_by.ensures p tabled known few) (c.release_of-released.ensures p tabled known))
-    (c.later.ensures ∙ ap (max c.after_named-named.result) (c.arrival-there.ensures ∙ ap (λ (l : Option ℕ). arrival_of l f 0) (c.before_of.ensures p tabled known)) ∙ arrival_greatest f step c.after_named-named.result)
+    (c.max.ensures ∙ ap (max c.after_named-named.result) (c.arrival-there.ensures ∙ ap (λ (l : Option ℕ). arrival_of l f 0) (c.before_of.ensures p tabled known)) ∙ arrival_greatest f step c.after_named-named.result)

@@ -11,22 +11,16 @@ use Rattle.reassign.proofs.WayLaws.{any_here, any_next, any_none}
 use Rattle.reassign.proofs.is_flexible.Goals as goal
 
 pub loop-a-init : goal.loop-a-init
-loop-a-init c = (omega arith, λ p t e k. ap (λ (m : ℕ). any_from (λ x. leb 2 (length (p.candidates x))) m 0) (omega (arith, e)))
-
-pub candidates_of-machines-requires : goal.candidates_of-machines-requires
-candidates_of-machines-requires c = record { problem = c.requires.problem; tabled = c.requires.tabled; known = omega (arith, c.requires.all, c.loop-a-test.true); few = c.requires.few }
+loop-a-init c = λ p t e k. ap (λ (m : ℕ). any_from (λ x. leb 2 (length (p.candidates x))) m 0) (omega (arith, e))
 
 pub returns-then-machines-ge2 : goal.returns-then-machines-ge2
 returns-then-machines-ge2 c p t e k = let two : leb 2 (length (p.candidates c.loop-a.a)) ≡ true = rw (← c.candidates_of-machines.ensures p t (omega arith) k) (le-leb _ _ c.if-machines-ge2.true) in
-    sym (any_here (λ x. leb 2 (length (p.candidates x))) (c.args.n - c.loop-a.a) c.loop-a.a (omega arith) two) ∙ c.loop-a.invariant.1 p t e k
+    sym (any_here (λ x. leb 2 (length (p.candidates x))) (c.args.n - c.loop-a.a) c.loop-a.a (omega arith) two) ∙ c.loop-a.invariant p t e k
 
 pub loop-a-preserved : goal.loop-a-preserved
-loop-a-preserved c = (
-  omega arith,
-  λ p t e k.
-      let one : leb 2 (length (p.candidates c.loop-a.a)) ≡ false = rw (← c.candidates_of-machines.ensures p t (omega arith) k) (lt-leb _ _ c.if-machines-ge2.false) in
-      sym (any_next (λ x. leb 2 (length (p.candidates x))) (c.args.n - c.loop-a.a) (c.args.n - (c.loop-a.a + 1)) c.loop-a.a (omega arith) one) ∙ c.loop-a.invariant.1 p t e k,
-)
+loop-a-preserved c = λ p t e k.
+    let one : leb 2 (length (p.candidates c.loop-a.a)) ≡ false = rw (← c.candidates_of-machines.ensures p t (omega arith) k) (lt-leb _ _ c.if-machines-ge2.false) in
+    sym (any_next (λ x. leb 2 (length (p.candidates x))) (c.args.n - c.loop-a.a) (c.args.n - (c.loop-a.a + 1)) c.loop-a.a (omega arith) one) ∙ c.loop-a.invariant p t e k
 
 pub returns : goal.returns
-returns c p t e k = sym (any_none (λ x. leb 2 (length (p.candidates x))) (c.args.n - c.loop-a.a) c.loop-a.a (omega (arith, c.loop-a-test.false))) ∙ c.loop-a.invariant.1 p t e k
+returns c p t e k = sym (any_none (λ x. leb 2 (length (p.candidates x))) (c.args.n - c.loop-a.a) c.loop-a.a (omega (arith, c.loop-a-test.false))) ∙ c.loop-a.invariant p t e k

@@ -9,7 +9,4 @@ use Rattle.reassign.specs.Reassignments.{any_from, flexible}
 use Rattle.reassign.proofs.is_flexible.Given as goal
 
 abbrev pub invariant-loop-a : goal.invariant-loop-a
-invariant-loop-a l = (l.a ≤ l.n) × ((p : Problem) → Tabled p l.table → l.n ≡ p.n → p.n ≤ 128 → any_from (λ x. leb 2 (length (p.candidates x))) (l.n - l.a) l.a ≡ flexible p)
-
-abbrev pub decreases-loop-a : goal.decreases-loop-a
-decreases-loop-a l = l.n - l.a
+invariant-loop-a l = (p : Problem) → Tabled p l.table → l.n ≡ p.n → p.n ≤ 128 → any_from (λ x. leb 2 (length (p.candidates x))) (l.n - l.a) l.a ≡ flexible p

@@ -1,10 +1,5 @@
 use Rattle.renewed.proofs.RenewedLaws.{Stored}
-use lib.ListN.{length}
-use Prim.Native.Nat.{◌-◌}
 use Rattle.renewed.proofs.put_words.Given as goal
 
 abbrev pub invariant-loop-i : goal.invariant-loop-i
 invariant-loop-i l = Stored l.initial.buf l.k l.numbers l.buf l.i
-
-abbrev pub decreases-loop-i : goal.decreases-loop-i
-decreases-loop-i l = length l.numbers - l.i

@@ -3,7 +3,7 @@
 use borrow.Author.Rules.{rules}
 use native.Mathlib.Omega.{arith}
 use mathlib.Core.Path.{◌≡◌, sym, ◌∙◌}
-use Prim.Native.Nat.{◌<◌, ◌-◌}
+use Prim.Native.Nat.{◌<◌}
 use Rattle.sheet.specs.Rows.{rows_in, subject_of}
 use Rattle.sheet.specs.declared.Subject.TheVariants.{Known}
 use Rattle.sheet.proofs.SearchLaws.{Meets, known_meets}
@@ -12,9 +12,6 @@ use Rattle.sheet.proofs.check_rows.Goals as goal
 
 pub loop-i-init : goal.loop-i-init
 loop-i-init c = checks c.row_count-count.result c.row_count-count.ensures
-
-pub subject_of-requires : goal.subject_of-requires
-subject_of-requires c = omega arith
 
 pub returns-in_default : goal.returns-in_default
 returns-in_default c = let inside : c.loop-i.i < rows_in c.args.rows.now = omega (arith, c.loop-i-test.true, c.row_count-count.ensures) in
@@ -64,9 +61,6 @@ loop-i-preserved c = let inside : c.loop-i.i < rows_in c.args.rows.now = omega (
     let meets : Meets c.args.z.activities c.args.z.machines c.args.rows.now (c.loop-i.i) c.in-Known.a c.in-Known.m = known_meets c.args.z.activities c.args.z.machines c.args.rows.now (c.loop-i.i) known in
     let able : c.in-Known.m < 16 = omega (arith, meets.able, c.requires.placed.0.machines) in
     good c.loop-i.invariant inside known able c.later_rule-rule.ensures c.if-rule-ne0.false
-
-pub missing-requires : goal.missing-requires
-missing-requires c = omega (arith, c.requires.first_rows.sized, c.requires.placed.0.activities)
 
 pub returns : goal.returns
 returns c = c.missing.ensures ∙ checked c.loop-i.invariant (omega (arith, c.loop-i-test.false, c.row_count-count.ensures)) c.requires.first_rows c.requires.placed.0.activities c.row_count-count.ensures

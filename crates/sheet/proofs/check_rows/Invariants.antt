@@ -1,6 +1,5 @@
 -- `sheet::check_rows` meets its contract. The loop's invariant: for each machine its last row before row i is known, and the answer to the
 -- rows from i on is the answer to all.
-use Prim.Native.Nat.{◌-◌}
 use Rattle.words.specs.Words.{words}
 use Rattle.plan.specs.Input.{problem_of}
 use Rattle.sheet.proofs.CheckLaws.{Checking}
@@ -8,6 +7,3 @@ use Rattle.sheet.proofs.check_rows.Given as goal
 
 abbrev pub invariant-loop-i : goal.invariant-loop-i
 invariant-loop-i l = Checking (problem_of (words l.s) l.z) l.rows l.last_on l.i
-
-abbrev pub decreases-loop-i : goal.decreases-loop-i
-decreases-loop-i l = l.count - l.i

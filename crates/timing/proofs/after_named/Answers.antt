@@ -1,27 +1,19 @@
 -- `timing::after_named` meets its contract. The loop's invariant: what is left, with the latest so far, has the same greatest.
-use Prim.Native.Nat.{◌-◌}
-use mathlib.Core.Path.{refl}
 use native.Mathlib.Omega.{arith}
 use lib.ListN.{length}
 use Rattle.graph.proofs.CountingLaws.{below_at}
-use Rattle.timing.proofs.NamedLaws.{looked, later, no_later}
+use Rattle.timing.proofs.NamedLaws.{looked, greater}
 use Rattle.timing.proofs.after_named.Goals as goal
 
-pub loop-i-init : goal.loop-i-init
-loop-i-init c = record { within = omega arith; left = refl }
-
-pub offset_bounds-ends-named : goal.offset_bounds-ends-named
-offset_bounds-ends-named c = let h = below_at (length c.args.ends.now) c.args.named.now c.loop-i.i c.requires c.loop-i-test.true in
+pub offset_bounds-ends-q : goal.offset_bounds-ends-q
+offset_bounds-ends-q c = let h = below_at (length c.args.ends.now) c.args.named.now c.loop-q.q-index c.requires c.loop-q-test.true in
     omega arith
 
-pub bounds-ends-named : goal.bounds-ends-named
-bounds-ends-named c = below_at (length c.args.ends.now) c.args.named.now c.loop-i.i c.requires c.loop-i-test.true
+pub bounds-ends-q : goal.bounds-ends-q
+bounds-ends-q c = below_at (length c.args.ends.now) c.args.named.now c.loop-q.q-index c.requires c.loop-q-test.true
 
-pub loop-i-preserved-then-latest-end : goal.loop-i-preserved-then-latest-end
-loop-i-preserved-then-latest-end c = later c.loop-i.invariant c.loop-i-test.true c.if-latest-end.true
-
-pub loop-i-preserved : goal.loop-i-preserved
-loop-i-preserved c = no_later c.loop-i.invariant c.loop-i-test.true c.if-latest-end.false
+pub loop-q-preserved : goal.loop-q-preserved
+loop-q-preserved c = rw c.max-latest.ensures (greater c.loop-q.invariant c.loop-q-test.true)
 
 pub returns : goal.returns
-returns c = looked c.loop-i.invariant c.loop-i-test.false
+returns c = looked c.loop-q.invariant c.loop-q-test.false

@@ -1,7 +1,6 @@
 -- `blocks::offers::offer_swap` meets its contract.
 use mathlib.Core.Path.{sym, ◌∙◌}
 use native.Mathlib.Omega.{arith}
-use Rattle.graph.proofs.BoolLaws.{denied}
 use Rattle.moves.specs.declared.Move.TheVariants.{Swap}
 use Rattle.blocks.proofs.OfferLaws.{offers_one, offers_out, swap_rank}
 use Rattle.blocks.proofs.offers.offer_swap.Goals as goal

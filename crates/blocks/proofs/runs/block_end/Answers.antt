@@ -1,10 +1,10 @@
 -- `blocks::runs::block_end` meets its contract. The loop's invariant: the run goes on up to here.
-use Prim.Native.Nat.{◌+◌, ◌-◌}
+use Prim.Native.Nat.{◌+◌}
 use mathlib.Core.Path.{sym, ◌∙◌}
 use native.Mathlib.Omega.{arith}
 use lib.ListN.{length, get_or}
 use Rattle.graph.proofs.CountingLaws.{below_at}
-use Rattle.blocks.proofs.RunLaws.{denied, affirmed, run_begin, run_out, run_stops, run_goes}
+use Rattle.blocks.proofs.RunLaws.{run_begin, run_out, run_stops, run_goes}
 use Rattle.blocks.proofs.runs.block_end.Goals as goal
 
 pub loop-last-init : goal.loop-last-init

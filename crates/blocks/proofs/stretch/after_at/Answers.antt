@@ -1,14 +1,23 @@
 -- `blocks::stretch::after_at` meets its contract.
-use borrow.Author.Tests.{lt-ltb, le-ltb}
 use lib.ListN.{length}
+use native.Mathlib.Omega.{arith}
 use Rattle.graph.proofs.CountingLaws.{below_at}
 use Rattle.blocks.proofs.stretch.after_at.Goals as goal
 
-pub span_and_tail-requires : goal.span_and_tail-requires
-span_and_tail-requires c = (below_at (length c.args.tail.now) c.args.line.now c.args.at c.requires.0 c.if-at-line.true, c.requires.1)
+pub offset_bounds-ends-x : goal.offset_bounds-ends-x
+offset_bounds-ends-x c = let h = below_at (length c.args.tail.now) c.args.line.now c.args.at c.requires.0 c.if-at-line.true in omega (arith, c.requires.1.started, c.requires.1.ended)
 
-pub returns-then-at-line : goal.returns-then-at-line
-returns-then-at-line c = λ order. rw (lt-ltb _ _ c.if-at-line.true) c.span_and_tail.ensures
+pub bounds-ends-x : goal.bounds-ends-x
+bounds-ends-x c = let h = below_at (length c.args.tail.now) c.args.line.now c.args.at c.requires.0 c.if-at-line.true in omega (arith, c.requires.1.started, c.requires.1.ended)
 
-pub returns : goal.returns
-returns c = λ order. rw (le-ltb _ _ c.if-at-line.false)
+pub offset_bounds-starts-x : goal.offset_bounds-starts-x
+offset_bounds-starts-x c = let h = below_at (length c.args.tail.now) c.args.line.now c.args.at c.requires.0 c.if-at-line.true in omega (arith, c.requires.1.started, c.requires.1.ended)
+
+pub bounds-starts-x : goal.bounds-starts-x
+bounds-starts-x c = let h = below_at (length c.args.tail.now) c.args.line.now c.args.at c.requires.0 c.if-at-line.true in omega (arith, c.requires.1.started, c.requires.1.ended)
+
+pub offset_bounds-tail-x : goal.offset_bounds-tail-x
+offset_bounds-tail-x c = let h = below_at (length c.args.tail.now) c.args.line.now c.args.at c.requires.0 c.if-at-line.true in omega (arith, c.requires.1.started, c.requires.1.ended)
+
+pub bounds-tail-x : goal.bounds-tail-x
+bounds-tail-x c = let h = below_at (length c.args.tail.now) c.args.line.now c.args.at c.requires.0 c.if-at-line.true in omega (arith, c.requires.1.started, c.requires.1.ended)

@@ -1,65 +1,45 @@
 -- `blocks::stretch::fill_heads` meets its contract. The loop's invariant: the heads of those passed are written, and `ready` is the last of them
 -- plus its span; whatever the problem, it is not late.
 use Prim.Native.Nat.{◌+◌, ◌-◌, ◌*◌, ◌^◌}
-use mathlib.Core.Path.{refl}
 use mathlib.Core.List.{[]}
 use native.Mathlib.Omega.{arith}
-use lib.ListN.{length-set}
 use Rattle.blocks.proofs.StretchLaws.{stands, span_all, headable, end_low, head_low, heads_begin, heads_all, heads_again}
 use Rattle.blocks.proofs.stretch.fill_heads.Goals as goal
 
-pub end_before-ready-requires : goal.end_before-ready-requires
-end_before-ready-requires c = (omega (arith, c.requires.1.rising, c.requires.1.within), rw c.requires.0.weighed.ended c.requires.0.lined.standing)
-
 pub loop-k-init : goal.loop-k-init
-loop-k-init c = (omega arith, omega (arith, c.requires.1.rising), refl, omega (arith, c.end_before-ready.ensures, end_low c.requires.0.weighed c.args.line.now c.args.first), λ p order v l. heads_begin c.end_before-ready.ensures)
-
-pub moved-x-requires : goal.moved-x-requires
-moved-x-requires c = (c.requires.1.leaves, c.requires.1.enters, omega (arith, c.requires.1.within))
+loop-k-init c = (omega (arith, c.end_before-ready.ensures, end_low c.requires.0.weighed c.args.line.now c.args.first), λ p order v l. heads_begin c.end_before-ready.ensures)
 
 pub head_of-head-requires : goal.head_of-head-requires
-head_of-head-requires c = let h = stands c.requires.0.lined c.requires.1 c.loop-k.k c.loop-k-test.true in
+head_of-head-requires c = let h = stands c.requires.0.lined c.requires.1 c.loop-k.k (omega arith) in
     headable c.requires.0.weighed c.moved-x.result (omega (arith, c.moved-x.ensures))
 
-pub offset_bounds-heads-k : goal.offset_bounds-heads-k
-offset_bounds-heads-k c = omega (arith, c.requires.1.within, c.requires.2)
-
-pub bounds-heads-k : goal.bounds-heads-k
-bounds-heads-k c = omega (arith, c.requires.1.within, c.requires.2)
-
 pub offset_bounds-ends-x : goal.offset_bounds-ends-x
-offset_bounds-ends-x c = let h = stands c.requires.0.lined c.requires.1 c.loop-k.k c.loop-k-test.true in
+offset_bounds-ends-x c = let h = stands c.requires.0.lined c.requires.1 c.loop-k.k (omega arith) in
     omega (arith, c.moved-x.ensures, c.requires.0.weighed.started, c.requires.0.weighed.ended)
 
 pub bounds-ends-x : goal.bounds-ends-x
-bounds-ends-x c = let h = stands c.requires.0.lined c.requires.1 c.loop-k.k c.loop-k-test.true in
+bounds-ends-x c = let h = stands c.requires.0.lined c.requires.1 c.loop-k.k (omega arith) in
     omega (arith, c.moved-x.ensures, c.requires.0.weighed.started, c.requires.0.weighed.ended)
 
 pub offset_bounds-starts-x : goal.offset_bounds-starts-x
-offset_bounds-starts-x c = let h = stands c.requires.0.lined c.requires.1 c.loop-k.k c.loop-k-test.true in
+offset_bounds-starts-x c = let h = stands c.requires.0.lined c.requires.1 c.loop-k.k (omega arith) in
     omega (arith, c.moved-x.ensures, c.requires.0.weighed.started, c.requires.0.weighed.ended)
 
 pub bounds-starts-x : goal.bounds-starts-x
-bounds-starts-x c = let h = stands c.requires.0.lined c.requires.1 c.loop-k.k c.loop-k-test.true in
+bounds-starts-x c = let h = stands c.requires.0.lined c.requires.1 c.loop-k.k (omega arith) in
     omega (arith, c.moved-x.ensures, c.requires.0.weighed.started, c.requires.0.weighed.ended)
 
 pub overflow_sub-ready : goal.overflow_sub-ready
-overflow_sub-ready c = let h = stands c.requires.0.lined c.requires.1 c.loop-k.k c.loop-k-test.true in
+overflow_sub-ready c = let h = stands c.requires.0.lined c.requires.1 c.loop-k.k (omega arith) in
     omega (arith, c.requires.0.weighed.upright c.moved-x.result (omega (arith, c.moved-x.ensures)))
 
 pub overflow_add-ready : goal.overflow_add-ready
-overflow_add-ready c = let h = stands c.requires.0.lined c.requires.1 c.loop-k.k c.loop-k-test.true in
-    omega (arith, c.head_of-head.ensures c.requires.0.problem c.requires.0.weighed.tabled (omega (arith, c.moved-x.ensures)), head_low c.requires.0.weighed [] c.loop-k.ready c.moved-x.result (2 ^ 42) (omega (arith, c.loop-k.invariant.3, c.requires.1.within, c.requires.0.lined.short)) (omega arith), span_all c.requires.0.weighed c.moved-x.result)
-
-pub overflow_add-k : goal.overflow_add-k
-overflow_add-k c = omega (arith, c.requires.1.within, c.requires.0.lined.short)
+overflow_add-ready c = let h = stands c.requires.0.lined c.requires.1 c.loop-k.k (omega arith) in
+    omega (arith, c.head_of-head.ensures c.requires.0.problem c.requires.0.weighed.tabled (omega (arith, c.moved-x.ensures)), head_low c.requires.0.weighed [] c.loop-k.ready c.moved-x.result (2 ^ 42) (omega (arith, c.loop-k.invariant.0, c.requires.1.within, c.requires.0.lined.short)) (omega arith), span_all c.requires.0.weighed c.moved-x.result)
 
 pub loop-k-preserved : goal.loop-k-preserved
-loop-k-preserved c = let h = stands c.requires.0.lined c.requires.1 c.loop-k.k c.loop-k-test.true in
-    (omega (arith, c.loop-k.invariant.0), omega arith, simp length-set c.loop-k.invariant.2, omega (arith, c.loop-k.invariant.0, c.head_of-head.ensures c.requires.0.problem c.requires.0.weighed.tabled (omega (arith, c.moved-x.ensures)), head_low c.requires.0.weighed [] c.loop-k.ready c.moved-x.result (2 ^ 41 + (c.loop-k.k - c.args.first) * 2 ^ 34) c.loop-k.invariant.3 (omega arith), span_all c.requires.0.weighed c.moved-x.result), λ p order v l. heads_again (c.loop-k.invariant.4 p order v l) c.loop-k.invariant.0 (omega (arith, c.loop-k.invariant.2, c.requires.1.within, c.requires.2)) c.moved-x.result c.head_of-head.result c.moved-x.ensures (c.head_of-head.ensures p v.tabled (omega (arith, c.moved-x.ensures, stands l c.requires.1 c.loop-k.k c.loop-k-test.true))))
-
-pub shape_of-heads : goal.shape_of-heads
-shape_of-heads c = c.loop-k.invariant.2
+loop-k-preserved c = let h = stands c.requires.0.lined c.requires.1 c.loop-k.k (omega arith) in
+    (omega (arith, c.loop-k.auto.k, c.head_of-head.ensures c.requires.0.problem c.requires.0.weighed.tabled (omega (arith, c.moved-x.ensures)), head_low c.requires.0.weighed [] c.loop-k.ready c.moved-x.result (2 ^ 41 + (c.loop-k.k - c.args.first) * 2 ^ 34) c.loop-k.invariant.0 (omega arith), span_all c.requires.0.weighed c.moved-x.result), λ p order v l. heads_again (c.loop-k.invariant.1 p order v l) c.loop-k.auto.k (omega (arith, c.loop-k.auto.heads, c.requires.1.within, c.requires.2)) c.moved-x.result c.head_of-head.result c.moved-x.ensures (c.head_of-head.ensures p v.tabled (omega (arith, c.moved-x.ensures, stands l c.requires.1 c.loop-k.k (omega arith)))))
 
 pub returns : goal.returns
-returns c = λ p order v l. heads_all (c.loop-k.invariant.4 p order v l) c.args.last (omega arith)
+returns c = λ p order v l. heads_all (c.loop-k.invariant.1 p order v l) c.args.last (omega arith)

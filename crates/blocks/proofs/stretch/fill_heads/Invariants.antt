@@ -1,9 +1,7 @@
 -- `blocks::stretch::fill_heads` meets its contract. The loop's invariant: the heads of those passed are written, and `ready` is the last of them
 -- plus its span; whatever the problem, it is not late.
 use Prim.Native.Nat.{ℕ, ◌+◌, ◌-◌, ◌*◌, ◌^◌, ◌≤◌}
-use mathlib.Core.Path.{◌≡◌}
 use mathlib.Core.List.{List}
-use lib.ListN.{length}
 use Rattle.plan.specs.Problem.{Problem}
 use Rattle.moves.specs.Moves.{shifted}
 use Rattle.path.specs.Placing.{placed}
@@ -13,11 +11,5 @@ use Rattle.blocks.proofs.StretchLaws.{Heading}
 use Rattle.blocks.proofs.stretch.fill_heads.Given as goal
 
 abbrev pub invariant-loop-k : goal.invariant-loop-k
-invariant-loop-k l = (l.first ≤ l.k)
-    × (l.k ≤ l.last + 1)
-    × (length l.heads ≡ length l.initial.heads)
-    × (l.ready ≤ 2 ^ 41 + (l.k - l.first) * 2 ^ 34)
+invariant-loop-k l = (l.ready ≤ 2 ^ 41 + (l.k - l.first) * 2 ^ 34)
     × ((p : Problem) (order : List ℕ) → Weighed p l.table l.starts l.ends → Lined p.n l.line → Heading p (placed order l.starts l.ends) (shifted l.line l.from l.to) (end_before l.ends l.line l.first) l.first l.heads l.ready l.k)
-
-abbrev pub decreases-loop-k : goal.decreases-loop-k
-decreases-loop-k l = l.last + 1 - l.k

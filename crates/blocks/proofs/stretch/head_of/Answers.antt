@@ -3,18 +3,11 @@ use Rattle.std.specs.Prelude.{Option, ℕ}
 use Prim.Native.Nat.{ℕ, max}
 use mathlib.Core.Path.{ap, ◌∙◌}
 use lib.ListN.{get_or}
-use native.Mathlib.Omega.{arith}
 use Rattle.graph.specs.Links.{linked}
 use Rattle.graph.specs.Shop.{greatest}
 use Rattle.tables.specs.Tabled.{task_pred}
 use Rattle.path.proofs.NeighbourLaws.{pred_below}
 use Rattle.blocks.proofs.stretch.head_of.Goals as goal
-
-pub release_of-requires : goal.release_of-requires
-release_of-requires c = (omega (arith, c.requires.held.known, c.requires.held.few), c.requires.held.tabled.sized)
-
-pub before_of-requires : goal.before_of-requires
-before_of-requires c = (omega (arith, c.requires.held.known, c.requires.held.few), c.requires.held.tabled.sized)
 
 pub later_end-requires : goal.later_end-requires
 later_end-requires c = rw (c.before_of.ensures c.requires.held.problem c.requires.held.tabled c.requires.held.known, c.requires.ended) (pred_below c.requires.held.problem c.requires.held.problem.n c.args.x c.requires.held.known)
@@ -22,7 +15,7 @@ later_end-requires c = rw (c.before_of.ensures c.requires.held.problem c.require
 pub returns : goal.returns
 returns c = λ p t h.
     let f : ℕ → ℕ = λ b. get_or c.args.ends.now b 0 in
-    let free = c.greater-free.ensures ∙ ap (λ (y : ℕ). max y c.args.ready) (c.release_of.ensures p t h) in
+    let free = c.max-free.ensures ∙ ap (λ (y : ℕ). max y c.args.ready) (c.release_of.ensures p t h) in
     c.later_end.ensures
-    ∙ ap (λ (l : Option ℕ). greatest f (linked l) c.greater-free.result) (c.before_of.ensures p t h)
+    ∙ ap (λ (l : Option ℕ). greatest f (linked l) c.max-free.result) (c.before_of.ensures p t h)
     ∙ ap (greatest f (linked (task_pred p c.args.x))) free

@@ -17,4 +17,4 @@ pub bounds-ends-x : goal.bounds-ends-x
 bounds-ends-x c = let h = link_names (length c.args.ends.now) c.in-Some.x c.in-Some.is c.requires in omega arith
 
 pub returns : goal.returns
-returns c = c.greater.ensures ∙ one_linked (λ x. get_or c.args.ends.now x 0) c.in-Some.x c.args.first c.in-Some.is
+returns c = c.max.ensures ∙ one_linked (λ x. get_or c.args.ends.now x 0) c.in-Some.x c.args.first c.in-Some.is

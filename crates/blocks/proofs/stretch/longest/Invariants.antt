@@ -12,9 +12,5 @@ use Rattle.blocks.proofs.stretch.longest.Given as goal
 
 abbrev pub invariant-loop-at : goal.invariant-loop-at
 invariant-loop-at l = (l.first ≤ l.at)
-    × (l.at ≤ l.last + 1)
     × ((p : Problem) (order : List ℕ) → Weighed p l.table l.starts l.ends → Low p.n l.tail → Lined p.n l.line → HeadsHeld p (placed order l.starts l.ends) (shifted l.line l.from l.to) (end_before l.ends l.line l.first) l.first l.last l.heads → Passing p (placed order l.starts l.ends) l.tail (shifted l.line l.from l.to) (end_before l.ends l.line l.first) (after_at (placed order l.starts l.ends) l.tail l.line (l.last + 1)) l.first l.last l.next l.most l.at)
     × (l.next ≤ 2 ^ 42 + (l.last + 1 - l.at) * 2 ^ 34)
-
-abbrev pub decreases-loop-at : goal.decreases-loop-at
-decreases-loop-at l = l.at

@@ -1,8 +1,12 @@
 -- `in_order::ready::ready_order` meets its contract. The loop's invariant: what is written, then what is still to come, is the whole order;
 -- and all before the front are taken.
-use Prim.Native.Nat.{◌-◌}
+use Rattle.std.specs.Prelude.{ℕ}
+use mathlib.Core.Path.{◌≡◌, subst}
 use native.Mathlib.Omega.{arith}
+use lib.ListN.{length}
 use Rattle.graph.proofs.CountingLaws.{below_more}
+use Rattle.genes.specs.Held.{Listed}
+use Rattle.in_order.specs.InOrder.{ready_order}
 use Rattle.in_order.proofs.StepLaws.{told, rising_begin, rising_again}
 use Rattle.in_order.proofs.TakingLaws.{a_comes, take_begin, coming_begin, take_again, a_known, come_again, come_none, come_end, take-listed, front_within}
 use Rattle.in_order.proofs.ready.ready_order.Goals as goal
@@ -19,17 +23,8 @@ skip_taken-front-requires c = (rw c.loop-taken.invariant.0.flags (below_more c.r
 pub first_ready-requires : goal.first_ready-requires
 first_ready-requires c = (record { problem = c.requires.0.problem; naming = c.requires.0.naming; roomy = omega (arith, c.loop-taken.invariant.0.flags, c.requires.0.naming.few); known = c.requires.0.known; told = told c.requires.0.problem c.args.activities.now c.loop-taken.pending c.requires.0.stepwise (c.loop-taken.invariant.1 c.requires.0.problem c.requires.0.naming c.requires.0.known c.requires.0.stepwise).1 }, front_within _ c.args.activities.now c.loop-taken.invariant.0.fronted c.skip_taken-front.ensures)
 
-pub shape_of-order-in_default : goal.shape_of-order-in_default
-shape_of-order-in_default c = omega (arith, c.loop-taken.invariant.0.sized)
-
-pub returns-in_default : goal.returns-in_default
-returns-in_default c = record { listed = λ p n b s. take-listed c.loop-taken.invariant.0 p c.requires.1 (come_none c.loop-taken.invariant.0 p (c.loop-taken.invariant.1 p n b s).0 c.loop-taken-test.true c.skip_taken-front.ensures (c.first_ready.ensures p n b (told p c.args.activities.now c.loop-taken.pending s (c.loop-taken.invariant.1 p n b s).1)) c.in_default.is); upper_bound = c.loop-taken.invariant.0.within }
-
-pub offset_bounds-order-taken : goal.offset_bounds-order-taken
-offset_bounds-order-taken c = omega (arith, c.loop-taken.invariant.0.sized, c.loop-taken-test.true, c.requires.1)
-
-pub bounds-order-taken : goal.bounds-order-taken
-bounds-order-taken c = omega (arith, c.loop-taken.invariant.0.sized, c.loop-taken-test.true, c.requires.1)
+pub returns-in_default-clause-listed : goal.returns-in_default-clause-listed
+returns-in_default-clause-listed c p n b s = take-listed c.loop-taken.invariant.0 p c.requires.1 (come_none c.loop-taken.invariant.0 p (c.loop-taken.invariant.1 p n b s).0 c.loop-taken-test.true c.skip_taken-front.ensures (c.first_ready.ensures p n b (told p c.args.activities.now c.loop-taken.pending s (c.loop-taken.invariant.1 p n b s).1)) c.in_default.is)
 
 pub offset_bounds-pending-a : goal.offset_bounds-pending-a
 offset_bounds-pending-a c = let known = a_known c.loop-taken.invariant.0 c.requires.0.problem (c.loop-taken.invariant.1 c.requires.0.problem c.requires.0.naming c.requires.0.known c.requires.0.stepwise).0 c.loop-taken-test.true c.skip_taken-front.ensures (c.first_ready.ensures c.requires.0.problem c.requires.0.naming c.requires.0.known (told c.requires.0.problem c.args.activities.now c.loop-taken.pending c.requires.0.stepwise (c.loop-taken.invariant.1 c.requires.0.problem c.requires.0.naming c.requires.0.known c.requires.0.stepwise).1)) c.requires.0.known c.requires.0.naming.few c.in-Some.is in
@@ -49,8 +44,6 @@ loop-taken-preserved c = let known = a_known c.loop-taken.invariant.0 c.requires
       ),
 )
 
-pub shape_of-order : goal.shape_of-order
-shape_of-order c = omega (arith, c.loop-taken.invariant.0.sized)
-
-pub returns : goal.returns
-returns c = record { listed = λ p n b s. take-listed c.loop-taken.invariant.0 p c.requires.1 (come_end c.loop-taken.invariant.0 p (c.loop-taken.invariant.1 p n b s).0 c.loop-taken-test.false); upper_bound = c.loop-taken.invariant.0.within }
+pub returns-clause-listed : goal.returns-clause-listed
+returns-clause-listed c p n b s = let e : c.loop-taken.taken ≡ length c.args.activities.now = omega (arith, c.loop-taken.invariant.0.within, c.loop-taken-test.false) in
+    subst (λ (k : ℕ). Listed (ready_order p c.args.activities.now) c.args.order.now c.loop-taken.order k) e (take-listed c.loop-taken.invariant.0 p c.requires.1 (come_end c.loop-taken.invariant.0 p (c.loop-taken.invariant.1 p n b s).0 c.loop-taken-test.false))

@@ -1,7 +1,5 @@
 -- `in_order::ready::ready_order` meets its contract. The loop's invariant: what is written, then what is still to come, is the whole order;
 -- and all before the front are taken.
-use Prim.Native.Nat.{◌-◌}
-use lib.ListN.{length}
 use Rattle.graph.specs.Counting.{Below}
 use Rattle.plan.specs.Problem.{Problem}
 use Rattle.in_order.specs.Waiting.{Naming, Stepwise}
@@ -11,6 +9,3 @@ use Rattle.in_order.proofs.ready.ready_order.Given as goal
 
 abbrev pub invariant-loop-taken : goal.invariant-loop-taken
 invariant-loop-taken l = Taking l.activities l.initial.order l.order l.pending l.front l.taken × ((p : Problem) → Naming p l.table → Below p.n l.activities → Stepwise p l.activities → Coming p l.activities l.order l.pending l.taken × Rising p l.activities l.pending)
-
-abbrev pub decreases-loop-taken : goal.decreases-loop-taken
-decreases-loop-taken l = length l.activities - l.taken

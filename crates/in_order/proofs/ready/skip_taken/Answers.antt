@@ -1,14 +1,10 @@
 -- `in_order::ready::skip_taken` meets its contract. The loop's invariant: all passed so far are taken.
-use Prim.Native.Nat.{◌-◌}
-use mathlib.Core.Path.{refl}
+use mathlib.Core.Path.{◌≡◌, ◌∙◌}
 use native.Mathlib.Omega.{arith}
 use lib.ListN.{length}
 use Rattle.graph.proofs.CountingLaws.{below_at}
 use Rattle.in_order.proofs.ReadyLaws.{all_skipped, skip_end, skip_again}
 use Rattle.in_order.proofs.ready.skip_taken.Goals as goal
-
-pub loop-i-init : goal.loop-i-init
-loop-i-init c = record { within = c.requires.1; left = refl }
 
 pub offset_bounds-pending-a : goal.offset_bounds-pending-a
 offset_bounds-pending-a c = let h = below_at (length c.args.pending.now) c.args.activities.now c.loop-i.i c.requires.0 c.loop-i-test.true in
@@ -25,4 +21,5 @@ pub loop-i-preserved : goal.loop-i-preserved
 loop-i-preserved c = skip_again c.loop-i.invariant c.loop-i-test.true c.if-pending-a-eq1.false
 
 pub returns : goal.returns
-returns c = all_skipped c.loop-i.invariant c.loop-i-test.false
+returns c = let e : length c.args.activities.now ≡ c.loop-i.i = omega (arith, c.loop-i.invariant.within, c.loop-i-test.false) in
+    e ∙ all_skipped c.loop-i.invariant c.loop-i-test.false

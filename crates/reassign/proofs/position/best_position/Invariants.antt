@@ -1,5 +1,4 @@
 -- `reassign::position::best_position` meets its contract. The loop's invariant: the least so far, with the positions left, gives the least of all.
-use Prim.Native.Nat.{◌-◌}
 use Rattle.reassign.specs.Reassignments.{length_at}
 use Rattle.reassign.specs.Reassigning.{unordered}
 use Rattle.reassign.proofs.PositionLaws.{Choosing}
@@ -7,6 +6,3 @@ use Rattle.reassign.proofs.position.best_position.Given as goal
 
 abbrev pub invariant-loop-i : goal.invariant-loop-i
 invariant-loop-i l = Choosing (length_at (unordered l.starts l.ends) l.tail l.line l.way) l.first l.last l.place l.length l.i
-
-abbrev pub decreases-loop-i : goal.decreases-loop-i
-decreases-loop-i l = l.last - l.i

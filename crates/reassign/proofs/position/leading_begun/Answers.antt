@@ -1,20 +1,16 @@
 -- `reassign::position::leading_begun` meets its contract. What leads from the turn on is the rest of what leads.
-use Prim.Native.Nat.{◌-◌}
 use native.Mathlib.Omega.{arith}
 use borrow.Author.Tests.{le-ltb, lt-ltb}
 use lib.ListN.{length}
 use Rattle.graph.proofs.CountingLaws.{below_at}
-use Rattle.reassign.proofs.PositionLaws.{leading_begin, leading_stop, leading_again, leading_end}
+use Rattle.reassign.proofs.PositionLaws.{leading_stop, leading_again, leading_end}
 use Rattle.reassign.proofs.position.leading_begun.Goals as goal
 
-pub loop-i-init : goal.loop-i-init
-loop-i-init c = leading_begin _ _
+pub offset_bounds-starts-x : goal.offset_bounds-starts-x
+offset_bounds-starts-x c = let b = below_at (length c.args.starts.now) c.args.line.now c.loop-i.i c.requires c.loop-i-test.true in omega arith
 
-pub offset_bounds-starts-line : goal.offset_bounds-starts-line
-offset_bounds-starts-line c = let b = below_at (length c.args.starts.now) c.args.line.now c.loop-i.i c.requires c.loop-i-test.true in omega arith
-
-pub bounds-starts-line : goal.bounds-starts-line
-bounds-starts-line c = let b = below_at (length c.args.starts.now) c.args.line.now c.loop-i.i c.requires c.loop-i-test.true in omega arith
+pub bounds-starts-x : goal.bounds-starts-x
+bounds-starts-x c = let b = below_at (length c.args.starts.now) c.args.line.now c.loop-i.i c.requires c.loop-i-test.true in omega arith
 
 pub returns-then-end-starts : goal.returns-then-end-starts
 returns-then-end-starts c = leading_stop c.loop-i.invariant c.loop-i-test.true (le-ltb _ _ c.if-end-starts.true)

@@ -24,7 +24,7 @@ overflow_add-result c = let f : ℕ → ℕ = λ x. get_or c.args.ends.now x 0 i
     let n = length c.args.tail.now in
     let before = line_before c.args.line.now c.args.i in
     let here = line_at c.args.line.now c.args.i in
-    let eh : c.later-head.result ≡ greatest f (linked before) c.args.way.head = c.later-head.ensures ∙ ap (max c.args.way.head) (c.arrival-free.ensures ∙ ap (λ (l : Option ℕ). arrival_of l f 0) c.line_before.ensures) ∙ arrival_greatest f before c.args.way.head in
+    let eh : c.max-head.result ≡ greatest f (linked before) c.args.way.head = c.max-head.ensures ∙ ap (max c.args.way.head) (c.arrival-free.ensures ∙ ap (λ (l : Option ℕ). arrival_of l f 0) c.line_before.ensures) ∙ arrival_greatest f before c.args.way.head in
     let er : c.after_link-rest.result ≡ greatest g (linked here) c.args.way.rest = c.after_link-rest.ensures ∙ ap (λ (l : Option ℕ). greatest g (linked l) c.args.way.rest) c.line_at.ensures in
     let h : greatest f (linked before) c.args.way.head < 2 ^ 62 = greatest_under f n (2 ^ 62) (linked before) c.args.way.head c.requires.2.head (before_below n c.args.line.now c.args.i c.requires.0) (λ x l. c.requires.1.early x) in
     let r : greatest g (linked here) c.args.way.rest < 2 ^ 62 = greatest_under g n (2 ^ 62) (linked here) c.args.way.rest c.requires.2.rest (at_below n c.args.line.now c.args.i c.requires.0) (λ x l. c.requires.1.addable.small x l) in
@@ -36,7 +36,7 @@ overflow_add-result-2 c = let f : ℕ → ℕ = λ x. get_or c.args.ends.now x 0
     let n = length c.args.tail.now in
     let before = line_before c.args.line.now c.args.i in
     let here = line_at c.args.line.now c.args.i in
-    let eh : c.later-head.result ≡ greatest f (linked before) c.args.way.head = c.later-head.ensures ∙ ap (max c.args.way.head) (c.arrival-free.ensures ∙ ap (λ (l : Option ℕ). arrival_of l f 0) c.line_before.ensures) ∙ arrival_greatest f before c.args.way.head in
+    let eh : c.max-head.result ≡ greatest f (linked before) c.args.way.head = c.max-head.ensures ∙ ap (max c.args.way.head) (c.arrival-free.ensures ∙ ap (λ (l : Option ℕ). arrival_of l f 0) c.line_before.ensures) ∙ arrival_greatest f before c.args.way.head in
     let er : c.after_link-rest.result ≡ greatest g (linked here) c.args.way.rest = c.after_link-rest.ensures ∙ ap (λ (l : Option ℕ). greatest g (linked l) c.args.way.rest) c.line_at.ensures in
     let h : greatest f (linked before) c.args.way.head < 2 ^ 62 = greatest_under f n (2 ^ 62) (linked before) c.args.way.head c.requires.2.head (before_below n c.args.line.now c.args.i c.requires.0) (λ x l. c.requires.1.early x) in
     let r : greatest g (linked here) c.args.way.rest < 2 ^ 62 = greatest_under g n (2 ^ 62) (linked here) c.args.way.rest c.requires.2.rest (at_below n c.args.line.now c.args.i c.requires.0) (λ x l. c.requires.1.addable.small x l) in
@@ -48,6 +48,6 @@ returns c = let f : ℕ → ℕ = λ x. get_or c.args.ends.now x 0 in
     let n = length c.args.tail.now in
     let before = line_before c.args.line.now c.args.i in
     let here = line_at c.args.line.now c.args.i in
-    let eh : c.later-head.result ≡ greatest f (linked before) c.args.way.head = c.later-head.ensures ∙ ap (max c.args.way.head) (c.arrival-free.ensures ∙ ap (λ (l : Option ℕ). arrival_of l f 0) c.line_before.ensures) ∙ arrival_greatest f before c.args.way.head in
+    let eh : c.max-head.result ≡ greatest f (linked before) c.args.way.head = c.max-head.ensures ∙ ap (max c.args.way.head) (c.arrival-free.ensures ∙ ap (λ (l : Option ℕ). arrival_of l f 0) c.line_before.ensures) ∙ arrival_greatest f before c.args.way.head in
     let er : c.after_link-rest.result ≡ greatest g (linked here) c.args.way.rest = c.after_link-rest.ensures ∙ ap (λ (l : Option ℕ). greatest g (linked l) c.args.way.rest) c.line_at.ensures in
     rw (eh, er)

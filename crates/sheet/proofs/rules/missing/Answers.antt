@@ -1,14 +1,8 @@
 -- `sheet::missing` meets its contract. The loop's invariant: the first without a row of the activities from a on is the first of all.
-use native.Mathlib.Omega.{arith}
-use Prim.Native.Nat.{◌-◌}
-use lib.Dec.{eqb}
 use lib.ListN.{get_or}
 use borrow.Author.Tests.{eq-eqb, ne_eqb}
-use Rattle.sheet.proofs.RuleLaws.{all_left, found, seeks_on, none_found}
+use Rattle.sheet.proofs.RuleLaws.{found, seeks_on, none_found}
 use Rattle.sheet.proofs.rules.missing.Goals as goal
-
-pub loop-a-init : goal.loop-a-init
-loop-a-init c = record { within = omega arith; left = all_left (λ x. eqb (get_or c.args.firsts.now x 0) c.args.count) c.args.n }
 
 pub returns-then-firsts-a : goal.returns-then-firsts-a
 returns-then-firsts-a c = found c.loop-a.invariant c.loop-a-test.true (eq-eqb (get_or c.args.firsts.now c.loop-a.a 0) c.args.count c.if-firsts-a.true)

@@ -1,5 +1,4 @@
 -- `sheet::missing` meets its contract. The loop's invariant: the first without a row of the activities from a on is the first of all.
-use Prim.Native.Nat.{◌-◌}
 use lib.Dec.{eqb}
 use lib.ListN.{get_or}
 use Rattle.sheet.proofs.RuleLaws.{Seeking}
@@ -7,6 +6,3 @@ use Rattle.sheet.proofs.rules.missing.Given as goal
 
 abbrev pub invariant-loop-a : goal.invariant-loop-a
 invariant-loop-a l = Seeking (λ x. eqb (get_or l.firsts x 0) l.count) l.n l.a
-
-abbrev pub decreases-loop-a : goal.decreases-loop-a
-decreases-loop-a l = l.n - l.a

@@ -1,5 +1,3 @@
-use Prim.Native.Nat.{◌-◌}
-use lib.ListN.{length}
 use Rattle.words.specs.Words.{words}
 use Rattle.plan.specs.Input.{problem_of}
 use Rattle.timing.proofs.TimedLaws.{Setting}
@@ -7,6 +5,3 @@ use Rattle.timing.proofs.placing.fill_setups.Given as goal
 
 abbrev pub invariant-loop-a : goal.invariant-loop-a
 invariant-loop-a l = Setting (problem_of (words l.s) l.z) l.before l.machines l.setups l.a
-
-abbrev pub decreases-loop-a : goal.decreases-loop-a
-decreases-loop-a l = length l.setups - l.a

@@ -1,12 +1,12 @@
 -- `words::text::put_decimal` meets its contract. The loop's invariant: the digits of `rest`, put from `at` up to `i`, would complete the line.
 use Prim.Native.Nat.{◌+◌, ◌-◌, ◌≤◌, ◌<◌}
-use mathlib.Core.Path.{refl, sym, ◌∙◌}
+use mathlib.Core.Path.{sym, ◌∙◌}
 use native.Mathlib.Omega.{arith}
 use borrow.Author.Tests.{leb-true, leb-false}
 use lib.ListN.{length, length-set}
 use Rattle.words.specs.Digits.{decimal}
 use Rattle.words.proofs.TextLaws.{written-fits, written_full, place_after-fits, place_after_full}
-use Rattle.words.proofs.DigitLaws.{digits_ahead, digit_put, digits_put, length-decimal}
+use Rattle.words.proofs.DigitLaws.{digit_put, digits_put, length-decimal}
 use Rattle.words.proofs.text.put_decimal.Goals as goal
 
 -- What the test of the room tells.
@@ -19,15 +19,6 @@ full c =
 pub returns-then-not-has_room : goal.returns-then-not-has_room
 returns-then-not-has_room c = record { line = sym (written_full _ _ _ (full c)); place = sym (place_after_full _ _ _ (full c)) }
 
-pub overflow_add-end : goal.overflow_add-end
-overflow_add-end c = let h : c.args.at + c.decimal_places-n.result ≤ length c.args.line.now = leb-true _ _ (sym c.has_room.ensures ∙ c.if-not-has_room.false) in omega arith
-
-pub loop-i-init : goal.loop-i-init
-loop-i-init c = (omega arith, omega arith, refl, digits_ahead 10 c.args.line.now c.args.at c.decimal_places-n.result c.args.v (omega arith))
-
-pub bounds-line-i : goal.bounds-line-i
-bounds-line-i c = let h : c.args.at + c.decimal_places-n.result ≤ length c.args.line.now = leb-true _ _ (sym c.has_room.ensures ∙ c.if-not-has_room.false) in omega arith
-
 pub loop-i-preserved : goal.loop-i-preserved
 loop-i-preserved c = (
   omega arith,
@@ -35,9 +26,6 @@ loop-i-preserved c = (
   length-set c.loop-i.line (c.loop-i.i - 1) c.last_decimal.result ∙ c.loop-i.invariant.2,
   rw c.last_decimal.ensures (digit_put 10 c.loop-i.line c.args.at c.loop-i.i c.loop-i.rest c.loop-i-test.true ∙ c.loop-i.invariant.3),
 )
-
-pub shape_of-line : goal.shape_of-line
-shape_of-line c = c.loop-i.invariant.2
 
 pub returns : goal.returns
 unfolding decimal

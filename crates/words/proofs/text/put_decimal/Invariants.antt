@@ -11,6 +11,3 @@ invariant-loop-i l = (l.at ≤ l.i)
     × (l.i ≤ l.end)
     × (length l.line ≡ length l.initial.line)
     × (sets l.line l.at (last_digits 10 (l.i - l.at) l.rest) ≡ sets l.initial.line l.at (last_digits 10 l.n l.v))
-
-abbrev pub decreases-loop-i : goal.decreases-loop-i
-decreases-loop-i l = l.i - l.at

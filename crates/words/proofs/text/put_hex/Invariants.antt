@@ -8,6 +8,3 @@ use Rattle.words.proofs.text.put_hex.Given as goal
 
 abbrev pub invariant-loop-i : goal.invariant-loop-i
 invariant-loop-i l = (l.at ≤ l.i) × (l.i ≤ l.end) × (length l.line ≡ length l.initial.line) × (sets l.line l.at (last_digits 16 (l.i - l.at) l.rest) ≡ sets l.initial.line l.at (last_digits 16 16 l.v))
-
-abbrev pub decreases-loop-i : goal.decreases-loop-i
-decreases-loop-i l = l.i - l.at
