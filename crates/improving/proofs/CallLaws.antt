@@ -7,16 +7,20 @@ use borrow.Author.Tests.{leb-true}
 use lib.Dec.{leb}
 use lib.Ieee.{Float}
 use lib.ListN.{length}
-use Rattle.reader.specs.Answer.{Reading}
-use Rattle.reader.specs.Answer.{Answer as ReadersAnswer}
-use Rattle.reader.specs.Answer.{Accepted as Read, No}
+use Rattle.std.specs.Prelude.{Ok, Err}
+use Rattle.words.specs.Words.{words}
+use Rattle.reader.specs.declared.refusal.Reason.TheVariants.{Room}
+use Rattle.reader.specs.declared.refusal.Refusal.{Refusal}
 use Rattle.plan.specs.Problem.{Problem, Genes}
-use Rattle.intake.specs.Intake.{problem_in, genes_in, taken_in}
+use Rattle.plan.specs.Input.{problem_of, genes_of}
+use Rattle.plan.specs.declared.Layout.{Layout}
+use Rattle.intake.specs.Intake.{taken_in, laid_out}
+use Rattle.intake.proofs.TakingLaws.{took, refused_so}
 use Rattle.lines.specs.Lines.{Lines}
 use Rattle.genes.specs.Indexed.{misses, lines_of_genes}
 use Rattle.timing.specs.Timing.{contradicts}
 use Rattle.search.specs.Search.{Saved, saved_of, nothing_better, improved, contradictory, incomplete, no_steps, searched, answer, thirteen_or, twelve_if, eleven_if, ten_if, improve}
-use Rattle.improving.specs.Improving.{Outcome, no, came, six_unless, roomy, improved_if, improved_plan}
+use Rattle.improving.specs.Improving.{Outcome, no, came, six_unless, roomy, improved_plan}
 
 -- ---- 13 and 14
 
@@ -64,7 +68,7 @@ module _ (p : Problem) (g : Genes) where
 
 -- ---- refusals
 
-pub six : (o : Outcome) (b : Bool) → b ≡ false → no 6 0 ≡ six_unless b o
+pub six : (o : Outcome) (b : Bool) → b ≡ false → no Room 0 ≡ six_unless b o
 six o true e = absurd (false≢true (sym e))
 six o false e = refl
 
@@ -82,11 +86,10 @@ roomy_means cells tasks machines q =
     let t = both (leb 128 (length tasks)) (leb 128 (length machines)) c.1 in
     (leb-true 2048 (length cells) c.0, leb-true 128 (length tasks) t.0, leb-true 128 (length machines) t.1)
 
-module _ (s : List ℕ) {r : Reading} (e : r ≡ taken_in s) where
-  pub not_taken : {number place : ℕ} → r.answer ≡ No number place → no number place ≡ improved_plan s
-  not_taken {number} {place} a = ap (λ (x : ReadersAnswer). improved_if x s (taken_in s)) (sym a ∙ ap (λ (x : Reading). x.answer) e)
+-- A layout that was answered is searched from.
+pub laid_improved : (s : List ℕ) {z : Layout} → Ok z ≡ laid_out (taken_in s) → came (improve (problem_of (words s) z) (genes_of (words s) z)) ≡ improved_plan s
+laid_improved s e = let k = took (taken_in s) e in rw (k.0, k.1) refl
 
-  pub taken : r.answer ≡ Read → came (improve (problem_in s r) (genes_in s r)) ≡ improved_plan s
-  taken a =
-      ap (λ (x : Reading). came (improve (problem_in s x) (genes_in s x))) e
-      ∙ ap (λ (x : ReadersAnswer). improved_if x s (taken_in s)) (sym a ∙ ap (λ (x : Reading). x.answer) e)
+-- A refusal that was answered is what the plan is refused for.
+pub refused_improved : (s : List ℕ) {f : Refusal} → Err f ≡ laid_out (taken_in s) → no f.reason f.place ≡ improved_plan s
+refused_improved s e = rw (refused_so (taken_in s) e) refl

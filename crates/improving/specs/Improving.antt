@@ -1,6 +1,6 @@
 -- Document 01, "Numbers on the screen", for Improve: number 6 for a buffer that is too short, then what the plan is refused for, then 10 to 14.
 -- Only 14 writes: n task numbers and n machines, later cells untouched.
-use Rattle.std.specs.Prelude.{ℕ, ◌≡◌, Bool, true, false, ◌&&◌, List, [], ◌∷◌, leb, length, Result, Ok, Err}
+use Rattle.std.specs.Prelude.{ℕ, Bool, true, false, ◌&&◌, List, leb, length, Result, Ok, Err}
 use Rattle.std.specs.Float.Ieee.{to_bits}
 use Rattle.std.specs.Float.{binary64}
 use Rattle.reader.specs.Answer.{Reading}

@@ -120,21 +120,17 @@ fn improve_genes(
 fn is_roomy(cells: &[usize], tasks: &[usize], machines: &[usize]) -> bool
     ensures { result ≡ roomy cells.now tasks.now machines.now }
 {
-    if cells.len() < 2048 {
-        return false;
-    }
-    if tasks.len() < 128 {
-        return false;
-    }
-    if machines.len() < 128 {
-        return false;
-    }
-    true
+    2048 <= cells.len() && 128 <= tasks.len() && 128 <= machines.len()
 }
 
 // Improves a plan: searches from the lines that its Order and Assignment give. Where something better is found, its task numbers, in timing
 // order, and the machine of each activity are written over the first cells of the results; else nothing is. The cells are work space.
-pub fn improve(s: &[u8], cells: &mut [usize], tasks: &mut [usize], machines: &mut [usize]) -> Result<Ending, Refusal>
+pub fn improve(
+    s: &[u8],
+    cells: &mut [usize],
+    tasks: &mut [usize],
+    machines: &mut [usize],
+) -> Result<Ending, Refusal>
     ensures answer { result ≡ answer_of (improved_in s.now cells.old tasks.old machines.old) }
     ensures tasks { tasks.new ≡ tasks_left (improved_in s.now cells.old tasks.old machines.old) tasks.old }
     ensures machines { machines.new ≡ machines_left (improved_in s.now cells.old tasks.old machines.old) machines.old }
@@ -147,12 +143,5 @@ pub fn improve(s: &[u8], cells: &mut [usize], tasks: &mut [usize], machines: &mu
     }
     let mut table = intake::table_room();
     let z = intake::take_in(s, &mut table)?;
-    Ok(improve_genes(
-        s,
-        z,
-        &table,
-        &mut cells[..2048],
-        tasks,
-        machines,
-    ))
+    Ok(improve_genes(s, z, &table, &mut cells[..2048], tasks, machines))
 }

@@ -1,24 +1,29 @@
 -- Which number, and what a call leaves.
 use Prim.Native.Nat.{ℕ, ◌≤◌}
-use mathlib.Core.Path.{◌≡◌, refl, sym, ap, ◌∙◌, subst}
+use mathlib.Core.Path.{◌≡◌, refl, sym, subst}
 use mathlib.Core.Bool.{Bool, true, false, ◌&&◌, false≢true}
 use mathlib.Core.List.{List}
 use lib.Dec.{leb}
 use lib.ListN.{length}
 use borrow.Author.Tests.{leb-true}
-use Rattle.reader.specs.Answer.{Reading}
-use Rattle.reader.specs.Answer.{Answer}
-use Rattle.reader.specs.Answer.{Accepted, No}
+use Rattle.std.specs.Prelude.{Ok, Err}
+use Rattle.words.specs.Words.{words}
+use Rattle.reader.specs.declared.refusal.Reason.{Reason}
+use Rattle.reader.specs.declared.refusal.Reason.TheVariants.{Room, Lines as Missed, Contradiction}
+use Rattle.reader.specs.declared.refusal.Refusal.{Refusal}
 use Rattle.plan.specs.Problem.{Problem}
-use Rattle.intake.specs.Intake.{problem_in, taken_in}
+use Rattle.plan.specs.Input.{problem_of}
+use Rattle.plan.specs.declared.Layout.{Layout}
+use Rattle.intake.specs.Intake.{taken_in, laid_out}
+use Rattle.intake.proofs.TakingLaws.{took, refused_so}
 use Rattle.lines.specs.Lines.{Lines}
 use Rattle.timing.specs.Timing.{contradicts}
-use Rattle.looking.specs.Looking.{Outcome, no, seen, sight_of, Leaves, eight_if, seven_unless, seen_lines, seen_if, seen_plan, six_unless, roomy}
+use Rattle.looking.specs.Looking.{Outcome, no, seen, sight_of, Leaves, eight_if, seven_unless, seen_lines, seen_plan, six_unless, roomy}
 
 -- ---- numbers 6, 7 and 8
 
 module _ (p : Problem) (lines : Lines) where
-  pub eight : (b : Bool) → b ≡ true → no 8 0 ≡ eight_if b p lines
+  pub eight : (b : Bool) → b ≡ true → no Contradiction 0 ≡ eight_if b p lines
   eight true e = refl
   eight false e = absurd (false≢true e)
 
@@ -26,7 +31,7 @@ module _ (p : Problem) (lines : Lines) where
   not_eight true e = absurd (false≢true (sym e))
   not_eight false e = refl
 
-  pub seven : (b : Bool) → b ≡ false → no 7 0 ≡ seven_unless b p lines
+  pub seven : (b : Bool) → b ≡ false → no Missed 0 ≡ seven_unless b p lines
   seven true e = absurd (false≢true (sym e))
   seven false e = refl
 
@@ -35,7 +40,7 @@ module _ (p : Problem) (lines : Lines) where
   not_seven false e = absurd (false≢true e)
 
 module _ (o : Outcome) where
-  pub six : (b : Bool) → b ≡ false → no 6 0 ≡ six_unless b o
+  pub six : (b : Bool) → b ≡ false → no Room 0 ≡ six_unless b o
   six true e = absurd (false≢true (sym e))
   six false e = refl
 
@@ -74,14 +79,15 @@ pub leaves_as : {x y : Outcome} {p₀ m₀ k₀ r₀ p m k r : List ℕ} → x �
 leaves_as {x} {y} {p₀} {m₀} {k₀} {r₀} {p} {m} {k} {r} e l = subst (λ (o : Outcome). Leaves o p₀ m₀ k₀ r₀ p m k r) e l
 
 -- A refusal leaves all as it was.
-pub refused : {number place : ℕ} {o : Outcome} {p m k r : List ℕ} → no number place ≡ o → Leaves o p m k r p m k r
+pub refused : {reason : Reason} {place : ℕ} {o : Outcome} {p m k r : List ℕ} → no reason place ≡ o → Leaves o p m k r p m k r
 refused e = leaves_as e (record { path = refl; moves = refl; kept = refl; ranks = refl })
 
 -- ---- numbers 1 to 5, and else the plan is taken in
 
-module _ (s : List ℕ) (lines : Lines) {r : Reading} (e : r ≡ taken_in s) where
-  pub not_taken : {number place : ℕ} → r.answer ≡ No number place → no number place ≡ seen_plan s lines
-  not_taken {number} {place} a = ap (λ (x : Answer). seen_if x s (taken_in s) lines) (sym a ∙ ap (λ (x : Reading). x.answer) e)
+-- A layout that was answered is looked at.
+pub laid_seen : (s : List ℕ) (lines : Lines) {z : Layout} → Ok z ≡ laid_out (taken_in s) → seen_lines (problem_of (words s) z) lines ≡ seen_plan s lines
+laid_seen s lines e = let k = took (taken_in s) e in rw (k.0, k.1) refl
 
-  pub taken : r.answer ≡ Accepted → seen_lines (problem_in s r) lines ≡ seen_plan s lines
-  taken a = ap (λ (x : Reading). seen_lines (problem_in s x) lines) e ∙ ap (λ (x : Answer). seen_if x s (taken_in s) lines) (sym a ∙ ap (λ (x : Reading). x.answer) e)
+-- A refusal that was answered is what the plan is refused for.
+pub refused_seen : (s : List ℕ) (lines : Lines) {f : Refusal} → Err f ≡ laid_out (taken_in s) → no f.reason f.place ≡ seen_plan s lines
+refused_seen s lines e = rw (refused_so (taken_in s) e) refl

@@ -1,22 +1,20 @@
 -- The block moves of a path, run after run, and the shifts of a block, one after the other.
-use Prim.Native.Nat.{ℕ, zero, suc, ◌+◌, ◌-◌, ◌*◌, ◌≤◌, ◌<◌}
-use mathlib.Core.Path.{◌≡◌, refl, sym, ap, ◌∙◌}
-use mathlib.Core.Bool.{Bool, true, false}
-use mathlib.Core.List.{List, [], ◌∷◌, ◌++◌, append-nil, append_assoc}
+use Prim.Native.Nat.{ℕ, suc, ◌+◌, ◌-◌, ◌*◌, ◌≤◌, ◌<◌}
+use mathlib.Core.Path.{◌≡◌, ap, ◌∙◌}
+use mathlib.Core.List.{List, [], ◌∷◌, ◌++◌, append-nil}
 use native.Mathlib.Omega.{arith}
 use borrow.Author.Tests.{eqb-true, lt-ltb, le-ltb}
 use lib.Dec.{eqb}
 use lib.ListN.{length, get_or, drop, length-append}
 use lib.Seq.{drop-length}
 use Rattle.graph.proofs.CountingLaws.{either}
-use Rattle.moves.specs.declared.Move.{Move}
 use Rattle.moves.specs.declared.Move.TheVariants.{Swap, Shift}
-use Rattle.blocks.specs.BlockMoves.{Block, block, closed, goes_on', blocks_from, blocks_by, begun, longer, shifts}
-use Rattle.blocks.specs.Scanning.{Run, own_moves, own_moves_of_all, moves_in}
+use Rattle.blocks.specs.BlockMoves.{Block, block, closed, goes_on', blocks_from, blocks_by, begun, shifts}
+use Rattle.blocks.specs.Scanning.{Run, own_moves, own_moves_of_all}
 use Rattle.blocks.proofs.RunLaws.{both_true, run_many, few_moves}
 use Rattle.blocks.proofs.OnceLaws.{split, own_append}
-use Rattle.looking.specs.Rows.{row_of, rows_of, Put}
-use Rattle.looking.proofs.RowLaws.{rows_long, rows_append, put_none, put_then, put_as}
+use Rattle.looking.specs.Rows.{row_of, rows_of}
+use Rattle.looking.proofs.RowLaws.{rows_append}
 
 -- ---- shifts
 

@@ -1,10 +1,11 @@
 -- From what is found to what a step sees.
-use Prim.Native.Nat.{ℕ, ◌+◌, ◌-◌, ◌*◌, ◌/◌, ◌≤◌, ◌<◌}
-use mathlib.Core.Path.{◌≡◌, refl, sym, ap, ap₂, ◌∙◌}
+use Prim.Native.Nat.{ℕ, ◌-◌, ◌*◌, ◌/◌, ◌≤◌}
+use mathlib.Core.Path.{◌≡◌, sym, ap, ap₂, ◌∙◌}
 use mathlib.Core.List.{List, ◌++◌}
 use native.Mathlib.Omega.{arith}
 use lib.ListN.{length, get_or, take, drop, length-drop}
-use lib.Ieee.{Float, to_bits, binary64}
+use lib.Ieee.{to_bits, binary64}
+use Rattle.std.specs.Prelude.{Ok}
 use Rattle.plan.specs.Problem.{Problem}
 use Rattle.lines.specs.Lines.{Lines}
 use Rattle.moves.specs.declared.Move.{Move}
@@ -20,8 +21,6 @@ use Rattle.trial.specs.Trial.{moves_of}
 use Rattle.search.proofs.SurveyLaws.{part_is}
 use Rattle.looking.specs.Rows.{rows_of, ranks_of, Put}
 use Rattle.looking.specs.Looking.{path_on, moves_on, blocks_on, others_on, sight_of, seen, answer_of}
-use Rattle.looking.specs.declared.Answer.{Answer}
-use Rattle.looking.specs.declared.Answer.TheVariants.{Seen}
 use Rattle.looking.proofs.RowLaws.{rows_long, put_as, put_over}
 use Rattle.looking.proofs.ListingLaws.{few}
 use Rattle.looking.proofs.KeptLaws.{held_long}
@@ -64,5 +63,5 @@ held_count three h e = sym (held_long three h) ∙ ap (λ (l : List Rated). leng
 -- ---- the answer
 
 pub seen-answer : (p : Problem) (lines : Lines) {a b c d f : ℕ} → a ≡ length (path_on p lines) → b ≡ length (moves_on p lines) → c ≡ length (blocks_on p lines)
-    → d ≡ length (others_on p lines) → f ≡ to_bits binary64 (fitness_on p lines) → Seen a b c d f ≡ answer_of (seen (sight_of p lines))
+    → d ≡ length (others_on p lines) → f ≡ to_bits binary64 (fitness_on p lines) → Ok (record { path = a; moves = b; blocks = c; others = d; bits = f }) ≡ answer_of (seen (sight_of p lines))
 seen-answer p lines ea eb ec ed ef = rw (ea, eb, ec, ed, ef)

@@ -1,6 +1,6 @@
 -- Document 01, "One search step", shown for lines that the caller gives: the critical path, every block move of it, the block moves and the
 -- reassignments that are kept, each with its rank, and the line fitness. Numbers 6, then 1 to 5, 7 and 8 as for timing; a refusal writes nothing.
-use Rattle.std.specs.Prelude.{ℕ, ◌≤◌, ◌≡◌, Bool, true, false, ◌&&◌, List, ◌++◌, leb, Float, length, take, Result, Ok, Err}
+use Rattle.std.specs.Prelude.{ℕ, ◌≡◌, Bool, true, false, ◌&&◌, List, ◌++◌, leb, Float, length, take, Result, Ok, Err}
 use Rattle.std.specs.Float.Ieee.{to_bits}
 use Rattle.std.specs.Float.{binary64}
 use Rattle.reader.specs.Answer.{Reading}

@@ -1,7 +1,7 @@
 -- A move as a row of six numbers: its kind (0 swap, 1 shift, 2 reassignment), then its own numbers in document 01's order, then 0 for each that
 -- its kind has not. A swap has machine and position; a shift machine, from, to; a reassignment activity, machine, position, new machine and new
 -- position. A rank is a row of two: length and time.
-use Rattle.std.specs.Prelude.{ℕ, ◌+◌, ◌≤◌, ◌≡◌, List, [], ◌∷◌, ◌++◌, length}
+use Rattle.std.specs.Prelude.{ℕ, ◌+◌, ◌≡◌, List, [], ◌∷◌, ◌++◌, length}
 use Rattle.std.proofs.lemmas.List.Edits.{sets}
 use Rattle.moves.specs.declared.Move.{Move}
 use Rattle.moves.specs.declared.Move.TheVariants.{Swap, Shift, Reassign}

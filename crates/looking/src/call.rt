@@ -138,22 +138,11 @@ fn look_known(
 fn is_roomy(cells: &[usize], path: &[usize], moves: &[usize], kept: &[usize], ranks: &[u64]) -> bool
     ensures { result ≡ roomy cells.now path.now moves.now kept.now ranks.now }
 {
-    if cells.len() < 2048 {
-        return false;
-    }
-    if path.len() < 128 {
-        return false;
-    }
-    if moves.len() < 1536 {
-        return false;
-    }
-    if kept.len() < 128 {
-        return false;
-    }
-    if ranks.len() < 128 {
-        return false;
-    }
-    true
+    2048 <= cells.len()
+        && 128 <= path.len()
+        && 1536 <= moves.len()
+        && 128 <= kept.len()
+        && 128 <= ranks.len()
 }
 
 // Shows one step of the search on the lines given for a plan: machine m's line is the first lens[m] cells from cell 128 m on. The path, first

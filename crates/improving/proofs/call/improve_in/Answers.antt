@@ -1,7 +1,6 @@
 use mathlib.Core.Path.{ap, ◌∙◌}
 use Rattle.words.specs.Words.{words}
 use Rattle.plan.specs.Input.{problem_of}
-use Rattle.graph.proofs.BoolLaws.{denied, granted}
 use Rattle.search.specs.Search.{Improved}
 use Rattle.improving.specs.Improving.{told, tasks_over, machines_over}
 use Rattle.improving.proofs.CallLaws.{twelve, not_twelve}

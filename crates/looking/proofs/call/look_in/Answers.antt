@@ -2,7 +2,6 @@
 use mathlib.Core.Path.{ap, ◌∙◌}
 use Rattle.words.specs.Words.{words}
 use Rattle.plan.specs.Input.{problem_of}
-use Rattle.graph.proofs.BoolLaws.{denied, granted}
 use Rattle.lines.specs.Lines.{lines_in}
 use Rattle.timing.specs.Timing.{contradicts}
 use Rattle.calls.proofs.SheetLaws.{not_not, not_false}

@@ -2,7 +2,6 @@
 use mathlib.Core.Path.{sym, ap, ◌∙◌}
 use Rattle.words.specs.Words.{words}
 use Rattle.plan.specs.Input.{problem_of}
-use Rattle.graph.proofs.BoolLaws.{denied, granted}
 use Rattle.lines.specs.Lines.{lines_in, well_formed}
 use Rattle.lines.proofs.TestLaws.{test_sound}
 use Rattle.looking.specs.Looking.{answer_of}

@@ -1,5 +1,5 @@
 -- `looking::listing::list_moves` meets its contract. The loop's invariant: the moves that are left, put from here on, give all of them.
-use Prim.Native.Nat.{◌+◌, ◌-◌}
+use Prim.Native.Nat.{◌+◌}
 use native.Mathlib.Omega.{arith}
 use lib.ListN.{get_or, drop}
 use Rattle.blocks.specs.BlockMoves.{block, closed, blocks_by}

@@ -1,5 +1,4 @@
 -- `looking::listing::put_block` meets its contract.
-use Prim.Native.Nat.{◌-◌}
 use mathlib.Core.Path.{sym, ◌∙◌}
 use native.Mathlib.Omega.{arith}
 use Rattle.looking.proofs.RowLaws.{put_then, put_as, put_long}
