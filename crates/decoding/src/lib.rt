@@ -11,7 +11,8 @@ ghost use Rattle.decoding.specs.Rule.{rule_of};
 use calls::Sheet;
 use reader::{Reason, Refusal};
 
-// How activities are placed: in order, actively, or as the better of these two sheets.
+// How activities are placed: in order, actively, or as the better of these two sheets. The step is named and not handed over as a closure,
+// since the project asks for named steps.
 #[derive(Clone, Copy)]
 enum Decoder {
     InOrder,

@@ -6,7 +6,7 @@ ghost use Rattle.looking.specs.Rows.{row_of, rows_of, Put};
 
 use moves::Move;
 
-// Puts a row, and answers the place after it.
+// Puts a row, and answers the place after it. The kind is a number, as callers in C read it.
 fn put_row(
     rows: &mut [usize],
     at: usize,

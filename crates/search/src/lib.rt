@@ -17,7 +17,8 @@ pub struct Moves {
     pub others: Three,
 }
 
-// What steps came to: the best line fitness, and whether it is below that of the lines at first.
+// What steps came to: the best line fitness, and whether it is below that of the lines at first. There is a best either way; `found` says
+// whether lent buffers hold its genes, so that an Option would hold nothing.
 #[derive(Clone, Copy)]
 pub struct Finish {
     pub best: f64,

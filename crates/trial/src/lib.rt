@@ -34,7 +34,7 @@ pub struct Taboo {
     pub until: usize,
 }
 
-// Nothing yet, or a fitness with its move.
+// Nothing yet, or a fitness with its move: an enum of its own, and no Option, since the project names this form for this place.
 #[derive(Clone, Copy)]
 pub enum Best {
     Nothing,
