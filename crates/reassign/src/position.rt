@@ -6,7 +6,8 @@ ghost use Rattle.reassign.specs.Reassigning.{unordered, Reckoned, Short};
 
 use crate::{Spot, Way};
 
-// How many lead the line that end by a start.
+// How many lead the line that end by a start. This and the next are two, and not one that is handed its test: the search's steps are named,
+// with no closures.
 pub fn leading_ended(line: &[usize], ends: &[u64], start: u64) -> usize
     requires { Below (length ends.now) line.now }
     ensures { result ≡ leading (λ x. leb (get_or ends.now x 0) start) line.now }
