@@ -301,11 +301,9 @@ fn pair_before(s: &[u8], w: usize, done: usize, at: usize, a: u32, m: u32) -> bo
     requires { (at < 2 ^ 62) × Risen (words s.now) w done at × ((0 < done) → get_or (words s.now) (at - w) 0 ≤ a) }
     ensures { result ≡ pair_before (words s.now) w done at a m }
 {
-    let mut left = done;
     let mut p = at;
-    while 0 < left {
+    for _ in 0..done {
         p = p.saturating_sub(w);
-        left -= 1;
         if words::word(s, p) != a {
             return false;
         }

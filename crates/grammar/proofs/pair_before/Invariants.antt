@@ -7,11 +7,8 @@ use Rattle.words.specs.Words.{words}
 use Rattle.grammar.specs.Rules.{pair_before, Risen}
 use Rattle.grammar.proofs.pair_before.Given as goal
 
-abbrev pub invariant-loop-left : goal.invariant-loop-left
-invariant-loop-left l = (l.p < 2 ^ 62)
-    × Risen (words l.s) l.w l.left l.p
-    × ((0 < l.left) → get_or (words l.s) (l.p - l.w) 0 ≤ l.a)
-    × (pair_before (words l.s) l.w l.done l.at l.a l.m ≡ pair_before (words l.s) l.w l.left l.p l.a l.m)
-
-abbrev pub decreases-loop-left : goal.decreases-loop-left
-decreases-loop-left l = l.left
+abbrev pub invariant-loop : goal.invariant-loop
+invariant-loop l = (l.p < 2 ^ 62)
+    × Risen (words l.s) l.w (l.done - l.counter) l.p
+    × ((0 < (l.done - l.counter)) → get_or (words l.s) (l.p - l.w) 0 ≤ l.a)
+    × (pair_before (words l.s) l.w l.done l.at l.a l.m ≡ pair_before (words l.s) l.w (l.done - l.counter) l.p l.a l.m)
