@@ -17,9 +17,9 @@ unfolding moves_of
 moves_long [] = refl
 moves_long (x ∷ l) = ap suc (moves_long l)
 
-module _ (three : Three) (small : three.count ≤ 3) where
+module _ (three : Three) where
   pub held_long : length (ranked three) ≡ three.count
-  held_long = length-take-le three.count (three.first ∷ three.second ∷ three.third ∷ []) small
+  held_long = length-take-le three.count (three.first ∷ three.second ∷ three.third ∷ []) three.few
 
   pub held_rows : length (rows_of (moves_of (ranked three))) ≤ 18
   held_rows = omega (arith, rows_long (moves_of (ranked three)), moves_long (ranked three), held_long)

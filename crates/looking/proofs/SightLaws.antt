@@ -57,8 +57,8 @@ module _ {blocks others : List Rated} {b o : List Rated} (eb : b ≡ blocks) (eo
   pub ranks_as : (cells : List ℕ) {ranks : List ℕ} → ranks ≡ over (ranks_of b ++ ranks_of o) cells → ranks ≡ over (ranks_of blocks ++ ranks_of others) cells
   ranks_as cells e = e ∙ ap₂ (λ (x y : List Rated). over (ranks_of x ++ ranks_of y) cells) eb eo
 
-pub held_count : (three : Three) → three.count ≤ 3 → {l : List Rated} → ranked three ≡ l → three.count ≡ length l
-held_count three h e = sym (held_long three h) ∙ ap (λ (l : List Rated). length l) e
+pub held_count : (three : Three) → {l : List Rated} → ranked three ≡ l → three.count ≡ length l
+held_count three e = sym (held_long three) ∙ ap (λ (l : List Rated). length l) e
 
 -- ---- the answer
 

@@ -10,7 +10,7 @@ use ranking::Three;
 
 // Puts the rows of the moves that are held, and answers the place after them.
 fn put_moves(rows: &mut [usize], at: usize, three: Three) -> usize
-    requires { (three.count ≤ 3) × (at + 18 ≤ length rows.old) }
+    requires { at + 18 ≤ length rows.old }
     ensures { Put (rows_of (moves_of (ranked three))) at rows.old rows.new result }
 {
     let mut next = at;
@@ -34,7 +34,7 @@ fn put_rank(ranks: &mut [u64], at: usize, far: u64, time: u64) -> usize
 
 // Puts the ranks of the moves that are held, length and time of each.
 fn put_ranks(ranks: &mut [u64], at: usize, three: Three) -> usize
-    requires { (three.count ≤ 3) × (at + 6 ≤ length ranks.old) }
+    requires { at + 6 ≤ length ranks.old }
     ensures { Put (ranks_of (ranked three)) at ranks.old ranks.new result }
 {
     let mut next = at;
@@ -47,7 +47,7 @@ fn put_ranks(ranks: &mut [u64], at: usize, three: Three) -> usize
 
 // Writes the moves and the ranks that a step keeps: those of block moves, then those of reassignments.
 pub fn write_kept(kept: &mut [usize], ranks: &mut [u64], blocks: Three, others: Three)
-    requires { (blocks.count ≤ 3) × (others.count ≤ 3) × (128 ≤ length kept.old) × (128 ≤ length ranks.old) }
+    requires { (128 ≤ length kept.old) × (128 ≤ length ranks.old) }
     ensures kept { kept.new ≡ over (rows_of (moves_of (ranked blocks)) ++ rows_of (moves_of (ranked others))) kept.old }
     ensures ranks { ranks.new ≡ over (ranks_of (ranked blocks) ++ ranks_of (ranked others)) ranks.old }
 {

@@ -10,16 +10,16 @@ use Rattle.looking.proofs.KeptLaws.{held_rows, held_ranks}
 use Rattle.looking.proofs.kept.write_kept.Goals as goal
 
 pub put_moves-row-requires : goal.put_moves-row-requires
-put_moves-row-requires c = (c.requires.0, omega (arith, c.requires.2))
+put_moves-row-requires c = omega (arith, c.requires.0)
 
 pub put_moves-requires : goal.put_moves-requires
-put_moves-requires c = (c.requires.1, omega (arith, c.requires.2, c.put_moves-row.ensures.ends, put_long c.put_moves-row.ensures, held_rows c.args.blocks c.requires.0))
+put_moves-requires c = omega (arith, c.requires.0, c.put_moves-row.ensures.ends, put_long c.put_moves-row.ensures, held_rows c.args.blocks)
 
 pub put_ranks-rank-requires : goal.put_ranks-rank-requires
-put_ranks-rank-requires c = (c.requires.0, omega (arith, c.requires.3))
+put_ranks-rank-requires c = omega (arith, c.requires.1)
 
 pub put_ranks-requires : goal.put_ranks-requires
-put_ranks-requires c = (c.requires.1, omega (arith, c.requires.3, c.put_ranks-rank.ensures.ends, put_long c.put_ranks-rank.ensures, held_ranks c.args.blocks c.requires.0))
+put_ranks-requires c = omega (arith, c.requires.1, c.put_ranks-rank.ensures.ends, put_long c.put_ranks-rank.ensures, held_ranks c.args.blocks)
 
 pub shape_of-kept : goal.shape_of-kept
 shape_of-kept c = put_long c.put_moves.ensures ∙ put_long c.put_moves-row.ensures
@@ -28,4 +28,4 @@ pub shape_of-ranks : goal.shape_of-ranks
 shape_of-ranks c = put_long c.put_ranks.ensures ∙ put_long c.put_ranks-rank.ensures
 
 pub returns : goal.returns
-returns c = record { kept = put_over (omega (arith, c.requires.2, length-append (rows_of (moves_of (ranked c.args.blocks))) (rows_of (moves_of (ranked c.args.others))), held_rows c.args.blocks c.requires.0, held_rows c.args.others c.requires.1)) (put_then c.put_moves-row.ensures c.put_moves.ensures); ranks = put_over (omega (arith, c.requires.3, length-append (ranks_of (ranked c.args.blocks)) (ranks_of (ranked c.args.others)), held_ranks c.args.blocks c.requires.0, held_ranks c.args.others c.requires.1)) (put_then c.put_ranks-rank.ensures c.put_ranks.ensures) }
+returns c = record { kept = put_over (omega (arith, c.requires.0, length-append (rows_of (moves_of (ranked c.args.blocks))) (rows_of (moves_of (ranked c.args.others))), held_rows c.args.blocks, held_rows c.args.others)) (put_then c.put_moves-row.ensures c.put_moves.ensures); ranks = put_over (omega (arith, c.requires.1, length-append (ranks_of (ranked c.args.blocks)) (ranks_of (ranked c.args.others)), held_ranks c.args.blocks, held_ranks c.args.others)) (put_then c.put_ranks-rank.ensures c.put_ranks.ensures) }
