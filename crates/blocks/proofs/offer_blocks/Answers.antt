@@ -12,9 +12,6 @@ loop-i-init c = (omega arith, refl, offering_begin c.args.all (lines_in c.args.c
 pub block_end-last-requires : goal.block_end-last-requires
 block_end-last-requires c = (scanned c.requires.0.searched.pathed c.requires.0.searched.weighed.few, c.loop-i-test.true)
 
-pub offer_run-three-requires : goal.offer_run-three-requires
-offer_run-three-requires c = (c.requires.0, c.requires.1, c.block_end-last.ensures, omega (arith, c.loop-i.invariant.1, c.requires.2))
-
 pub overflow_add-i : goal.overflow_add-i
 overflow_add-i c = let t = scanned c.requires.0.searched.pathed c.requires.0.searched.weighed.few in omega (arith, c.block_end-last.ensures.within, t.few)
 

@@ -4,9 +4,6 @@ use native.Mathlib.Omega.{arith}
 use Rattle.blocks.proofs.OfferLaws.{offers_then, own_pair, own_more}
 use Rattle.blocks.proofs.offers.offer_block.Goals as goal
 
-pub offer_swap-one-requires : goal.offer_swap-one-requires
-offer_swap-one-requires c = (c.requires.0, omega (arith, c.requires.1, c.requires.2), c.requires.3)
-
 pub overflow_add-next : goal.overflow_add-next
 overflow_add-next c = omega (arith, c.requires.1, c.requires.2, c.requires.0.lined.short)
 
@@ -18,12 +15,6 @@ returns-then-last-next c = rw (own_pair c.args.m c.args.first c.args.last (omega
 
 pub overflow_sub-at : goal.overflow_sub-at
 overflow_sub-at c = omega (arith, c.requires.1)
-
-pub offer_swap-two-requires : goal.offer_swap-two-requires
-offer_swap-two-requires c = (c.requires.0, omega (arith, c.requires.1, c.requires.2), omega (arith, c.offer_swap-one.auto.heads, c.requires.3))
-
-pub offer_ends-requires : goal.offer_ends-requires
-offer_ends-requires c = (c.requires.0, omega (arith, c.if-last-next.false), c.requires.2, omega (arith, c.offer_swap-two.auto.heads, c.offer_swap-one.auto.heads, c.requires.3))
 
 pub shape_of-heads : goal.shape_of-heads
 shape_of-heads c = c.offer_ends.auto.heads ∙ c.offer_swap-two.auto.heads ∙ c.offer_swap-one.auto.heads

@@ -10,14 +10,8 @@ overflow_add-third c = omega (arith, c.requires.1, c.requires.2, c.requires.0.li
 pub overflow_add-behind : goal.overflow_add-behind
 overflow_add-behind c = omega (arith, c.requires.1, c.requires.2, c.requires.0.lined.short)
 
-pub offer_shifts-to_front-requires : goal.offer_shifts-to_front-requires
-offer_shifts-to_front-requires c = (c.requires.0, omega (arith, c.requires.1, c.requires.2), omega (arith, c.requires.1), omega (arith, c.requires.2), c.requires.3)
-
 pub overflow_sub-end : goal.overflow_sub-end
 overflow_sub-end c = omega (arith, c.requires.1, c.requires.2, c.requires.0.lined.short)
-
-pub offer_shifts-requires : goal.offer_shifts-requires
-offer_shifts-requires c = (c.requires.0, c.requires.2, omega (arith, c.requires.1), omega (arith, c.requires.2), omega (arith, c.offer_shifts-to_front.auto.heads, c.requires.3))
 
 pub shape_of-heads : goal.shape_of-heads
 shape_of-heads c = c.offer_shifts.auto.heads ∙ c.offer_shifts-to_front.auto.heads

@@ -1,12 +1,8 @@
 -- `blocks::offers::offer_swap` meets its contract.
 use mathlib.Core.Path.{sym, ◌∙◌}
-use native.Mathlib.Omega.{arith}
 use Rattle.moves.specs.declared.Move.TheVariants.{Swap}
 use Rattle.blocks.proofs.OfferLaws.{offers_one, offers_out, swap_rank}
 use Rattle.blocks.proofs.offers.offer_swap.Goals as goal
-
-pub weigh-length-requires : goal.weigh-length-requires
-weigh-length-requires c = (c.requires.0, omega arith, c.requires.1, c.requires.2)
 
 pub returns-then-not-enters : goal.returns-then-not-enters
 returns-then-not-enters c = offers_out (Swap c.args.m c.args.at) c.args.three c.weigh-length.result (sym c.enters.ensures ∙ c.if-not-enters.true) (λ p lines order r. swap_rank c.args.all r order c.args.at c.weigh-length.result c.requires.1 (c.weigh-length.ensures p order r.weighed r.low r.lined))

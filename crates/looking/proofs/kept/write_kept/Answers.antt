@@ -9,14 +9,8 @@ use Rattle.looking.proofs.RowLaws.{put_then, put_long, put_over}
 use Rattle.looking.proofs.KeptLaws.{held_rows, held_ranks}
 use Rattle.looking.proofs.kept.write_kept.Goals as goal
 
-pub put_moves-row-requires : goal.put_moves-row-requires
-put_moves-row-requires c = omega (arith, c.requires.0)
-
 pub put_moves-requires : goal.put_moves-requires
 put_moves-requires c = omega (arith, c.requires.0, c.put_moves-row.ensures.ends, put_long c.put_moves-row.ensures, held_rows c.args.blocks)
-
-pub put_ranks-rank-requires : goal.put_ranks-rank-requires
-put_ranks-rank-requires c = omega (arith, c.requires.1)
 
 pub put_ranks-requires : goal.put_ranks-requires
 put_ranks-requires c = omega (arith, c.requires.1, c.put_ranks-rank.ensures.ends, put_long c.put_ranks-rank.ensures, held_ranks c.args.blocks)
