@@ -10,13 +10,7 @@ use moves::{Move, Pairing};
 fn names(t: Taboo, step: usize, x: usize, y: usize) -> bool
     ensures { result ≡ names step t x y }
 {
-    if t.until <= step {
-        return false;
-    }
-    if t.first == x {
-        return t.second == y;
-    }
-    false
+    step < t.until && t.first == x && t.second == y
 }
 
 // Whether some place does.
@@ -35,10 +29,7 @@ fn listed(places: [Taboo; 6], step: usize, x: usize, y: usize) -> bool
 fn either_way(places: [Taboo; 6], step: usize, two: Pairing) -> bool
     ensures { result ≡ either_way step places two }
 {
-    if listed(places, step, two.first, two.second) {
-        return true;
-    }
-    listed(places, step, two.second, two.first)
+    listed(places, step, two.first, two.second) || listed(places, step, two.second, two.first)
 }
 
 // Whether a move is forbidden for now: a block move by its pair, a reassignment by its activity and target.

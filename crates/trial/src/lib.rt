@@ -88,13 +88,7 @@ fn beats(held: Best, fitness: f64) -> bool
 fn counts(forbidden: bool, best: f64, fitness: f64, held: Best) -> bool
     ensures { result ≡ counts forbidden best fitness held }
 {
-    if !forbidden {
-        return beats(held, fitness);
-    }
-    if fitness < best {
-        return beats(held, fitness);
-    }
-    false
+    (!forbidden || fitness < best) && beats(held, fitness)
 }
 
 // Weighs a move whose lines are timed. Where it counts, its timing is kept and it is answered, else what was held.
