@@ -12,8 +12,8 @@ pub returns-then-not-lot : goal.returns-then-not-lot
 returns-then-not-lot c = let b = not_false (misses (problem_of (words c.args.s.now) c.args.z) (genes_of (words c.args.s.now) c.args.z)) c.deal_lines-lot.ensures.whole (denied _ c.if-not-lot.true) in
     record { answer = missed_answer (problem_of (words c.args.s.now) c.args.z) (genes_of (words c.args.s.now) c.args.z) (misses (problem_of (words c.args.s.now) c.args.z) (genes_of (words c.args.s.now) c.args.z)) b; rows = missed_leaves (problem_of (words c.args.s.now) c.args.z) (genes_of (words c.args.s.now) c.args.z) (misses (problem_of (words c.args.s.now) c.args.z) (genes_of (words c.args.s.now) c.args.z)) b }
 
-pub time_lines-requires : goal.time_lines-requires
-time_lines-requires c = record { taken = (c.requires.0, c.deal_lines-lot.auto.cells, rw (c.deal_lines-lot.ensures.held (granted _ c.if-not-lot.false)) (genes-well_formed c.requires.0.accepted (not_not (misses (problem_of (words c.args.s.now) c.args.z) (genes_of (words c.args.s.now) c.args.z)) c.deal_lines-lot.ensures.whole (granted _ c.if-not-lot.false)))); roomy = c.requires.1 }
+pub time_lines-requires-clause-taken : goal.time_lines-requires-clause-taken
+time_lines-requires-clause-taken c = (c.requires.0, c.deal_lines-lot.auto.cells, rw (c.deal_lines-lot.ensures.held (granted _ c.if-not-lot.false)) (genes-well_formed c.requires.0.accepted (not_not (misses (problem_of (words c.args.s.now) c.args.z) (genes_of (words c.args.s.now) c.args.z)) c.deal_lines-lot.ensures.whole (granted _ c.if-not-lot.false))))
 
 pub returns : goal.returns
 returns c = let e = dealt_on (problem_of (words c.args.s.now) c.args.z) (genes_of (words c.args.s.now) c.args.z) (misses (problem_of (words c.args.s.now) c.args.z) (genes_of (words c.args.s.now) c.args.z)) (not_not (misses (problem_of (words c.args.s.now) c.args.z) (genes_of (words c.args.s.now) c.args.z)) c.deal_lines-lot.ensures.whole (granted _ c.if-not-lot.false)) (c.deal_lines-lot.ensures.held (granted _ c.if-not-lot.false)) in
