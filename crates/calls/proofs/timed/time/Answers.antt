@@ -3,21 +3,15 @@ use mathlib.Core.Bool.{◌&&◌}
 use lib.Dec.{leb}
 use lib.ListN.{length, take}
 use lib.Seq.{length-take-le}
-use Rattle.std.proofs.lemmas.Result.{err_from_is_err_and}
 use Rattle.lines.specs.Lines.{lines_in}
 use Rattle.calls.specs.Outcome.{answer_of}
 use Rattle.calls.specs.Timing.{timed_plan, roomy}
-use Rattle.calls.proofs.SheetLaws.{six-answer, six-leaves, roomy_on, roomy_means, laid_asks, laid_timed, refused_timed, leaves_as}
+use Rattle.calls.proofs.SheetLaws.{roomy_on, roomy_means, laid_asks, laid_timed, refused_timed, leaves_as}
 use Rattle.calls.proofs.timed.time.Goals as goal
 
-pub returns-then-not-is_roomy : goal.returns-then-not-is_roomy
-returns-then-not-is_roomy c = let b = sym c.is_roomy.ensures ∙ c.if-not-is_roomy.true in
-    record { answer = six-answer (timed_plan c.args.s.now (lines_in (take 2048 c.args.cells.now) c.args.lens)) (leb 2048 (length c.args.cells.now) && roomy c.args.activities.now c.args.machines.now c.args.starts.now c.args.ends.now c.args.setups.now) b; rows = six-leaves (timed_plan c.args.s.now (lines_in (take 2048 c.args.cells.now) c.args.lens)) (leb 2048 (length c.args.cells.now) && roomy c.args.activities.now c.args.machines.now c.args.starts.now c.args.ends.now c.args.setups.now) b }
-
-pub returns-in_err-z : goal.returns-in_err-z
-returns-in_err-z c = let e = refused_timed c.args.s.now c.in_err-z.ensures.answer (lines_in (take 2048 c.args.cells.now) c.args.lens) ∙ roomy_on (timed_plan c.args.s.now (lines_in (take 2048 c.args.cells.now) c.args.lens)) (leb 2048 (length c.args.cells.now) && roomy c.args.activities.now c.args.machines.now c.args.starts.now c.args.ends.now c.args.setups.now) (sym c.is_roomy.ensures ∙ c.if-not-is_roomy.false) in
-    let p = err_from_is_err_and c.from_residual.result c.from_residual.ensures.1 in
-    record { answer = rw (p.1, p.2) (ap answer_of e); rows = leaves_as e (record { activities = refl; machines = refl; starts = refl; ends = refl; setups = refl }) }
+pub returns-in_err-z-clause-rows : goal.returns-in_err-z-clause-rows
+returns-in_err-z-clause-rows c = let e = refused_timed c.args.s.now c.in_err-z.ensures.answer (lines_in (take 2048 c.args.cells.now) c.args.lens) ∙ roomy_on (timed_plan c.args.s.now (lines_in (take 2048 c.args.cells.now) c.args.lens)) (leb 2048 (length c.args.cells.now) && roomy c.args.activities.now c.args.machines.now c.args.starts.now c.args.ends.now c.args.setups.now) (sym c.is_roomy.ensures ∙ c.if-not-is_roomy.false) in
+    leaves_as e (record { activities = refl; machines = refl; starts = refl; ends = refl; setups = refl })
 
 pub slice_bounds-time_known-end-2 : goal.slice_bounds-time_known-end-2
 slice_bounds-time_known-end-2 c = sym (length-take-le 2048 c.args.cells.now (roomy_means c.args.cells.now c.args.activities.now c.args.machines.now c.args.starts.now c.args.ends.now c.args.setups.now (sym c.is_roomy.ensures ∙ c.if-not-is_roomy.false)).0)

@@ -8,21 +8,15 @@ use Rattle.timing.proofs.TimedLaws.{seated}
 use Rattle.calls.proofs.SheetLaws.{eight_answer, eight_leaves, sheet_answer, sheet_leaves, not_not, not_false, ended, fitness_is}
 use Rattle.calls.proofs.timed.time_in.Goals as goal
 
-pub time_sequences-requires : goal.time_sequences-requires
-time_sequences-requires c = record { placed = (c.requires.taken.0.placed, c.requires.taken.0.accepted, c.requires.taken.0.tabled, c.transports-ways.ensures); cells_len = (c.requires.taken.1, c.requires.taken.2, c.requires.rooms.0) }
-
 pub returns-then-not-time_sequences : goal.returns-then-not-time_sequences
 returns-then-not-time_sequences c = let b = not_false (contradicts (problem_of (words c.args.s.now) c.args.z) (lines_in c.args.cells.now c.args.lens)) c.time_sequences.ensures.answer c.if-not-time_sequences.true in
     record { answer = eight_answer (problem_of (words c.args.s.now) c.args.z) (lines_in c.args.cells.now c.args.lens) (contradicts (problem_of (words c.args.s.now) c.args.z) (lines_in c.args.cells.now c.args.lens)) b; rows = eight_leaves (problem_of (words c.args.s.now) c.args.z) (lines_in c.args.cells.now c.args.lens) (contradicts (problem_of (words c.args.s.now) c.args.z) (lines_in c.args.cells.now c.args.lens)) b }
 
-pub write_sheet-requires : goal.write_sheet-requires
-write_sheet-requires c = record { taken = (c.requires.taken.0, c.requires.taken.2); seated = ((seated c.time_sequences.ensures.linked (c.time_sequences.auto.before ∙ c.requires.rooms.0.length_before) (c.time_sequences.auto.machines ∙ c.requires.rooms.0.length-machines)), (c.time_sequences.ensures.timed c.if-not-time_sequences.false)); roomy = c.requires.rooms.1 }
+pub write_sheet-requires-clause-seated : goal.write_sheet-requires-clause-seated
+write_sheet-requires-clause-seated c = ((seated c.time_sequences.ensures.linked (c.time_sequences.auto.before ∙ c.requires.rooms.0.length_before) (c.time_sequences.auto.machines ∙ c.requires.rooms.0.length-machines)), (c.time_sequences.ensures.timed c.if-not-time_sequences.false))
 
-pub fitness_bits-requires : goal.fitness_bits-requires
-fitness_bits-requires c = record { placed = (c.requires.taken.0.placed, c.requires.taken.0.accepted, c.requires.taken.0.weighed); ended = ended (problem_of (words c.args.s.now) c.args.z) (genes_of (words c.args.s.now) c.args.z) c.requires.taken.0.accepted (lines_in c.args.cells.now c.args.lens) c.requires.taken.2 (c.time_sequences.ensures.timed c.if-not-time_sequences.false) }
-
-pub shape_of-before : goal.shape_of-before
-shape_of-before c = c.time_sequences.auto.before
+pub fitness_bits-requires-clause-ended : goal.fitness_bits-requires-clause-ended
+fitness_bits-requires-clause-ended c = ended (problem_of (words c.args.s.now) c.args.z) (genes_of (words c.args.s.now) c.args.z) c.requires.taken.0.accepted (lines_in c.args.cells.now c.args.lens) c.requires.taken.2 (c.time_sequences.ensures.timed c.if-not-time_sequences.false)
 
 pub returns : goal.returns
 returns c = let b = not_not (contradicts (problem_of (words c.args.s.now) c.args.z) (lines_in c.args.cells.now c.args.lens)) c.time_sequences.ensures.answer c.if-not-time_sequences.false in
