@@ -11,6 +11,7 @@ use Rattle.graph.specs.Filing as filing
 use Rattle.graph.specs.Order as order
 use Rattle.grammar.specs.Rules as rules
 use Rattle.reader.specs.Reading as reading
+use Rattle.reader.specs.declared.refusal.Reason.TheVariants.{Contradiction}
 use Rattle.plan.specs.Problem.{Problem}
 use Rattle.plan.specs.Input as input
 use Rattle.tables.specs.Tabled.{task_pred}
@@ -25,7 +26,7 @@ use Rattle.calls.specs.Timing.{timed_plan}
 use Rattle.plans.specs.PlanS.{bytes_of_zeros}
 use Rattle.plans.specs.Table.{crossed, P7}
 
-refused : timed_plan bytes_of_zeros crossed ≡ no 8 0
+refused : timed_plan bytes_of_zeros crossed ≡ no Contradiction 0
 unfolding stored.words stored.bytes_of reading.read_all reading.read_sections reading.read_section reading.read_entries reading.read_fields reading.read_word rules.total_from rules.pair_before rules.precedes input.owner input.seconds input.firsts order.order_of order.order_from order.stack_free order.free_all circle.each counting.count_of counting.hit filing.naming lines.befores lines.afters lines.well_formed lines.all lines.all_known lines.standing lines.standings
 refused = refl
 

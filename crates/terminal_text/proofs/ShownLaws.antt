@@ -1,50 +1,47 @@
 -- What is put is what is to be shown, case by case.
-use Prim.Native.Nat.{ℕ, zero, suc, ◌+◌, ◌*◌, ◌≤◌, ◌<◌}
-use mathlib.Core.Path.{◌≡◌, refl, sym, ap, ap₂, ◌∙◌, subst}
+use Prim.Native.Nat.{ℕ, ◌+◌, ◌*◌, ◌≤◌, ◌<◌}
+use mathlib.Core.Path.{◌≡◌, refl, sym, ap, ap₂, ◌∙◌}
 use mathlib.Core.Bool.{Bool, true, false, cond, false≢true}
-use mathlib.Core.List.{List, [], ◌∷◌, ◌++◌}
+use mathlib.Core.List.{List}
 use native.Mathlib.Nat.{mul-le-mul_right}
 use native.Mathlib.Omega.{arith}
 use borrow.Author.Tests.{le-leb, lt-leb}
 use lib.Dec.{leb}
-use lib.Ieee.{Float, to_bits, binary64}
-use lib.ListN.{length, take, drop, length-append}
+use lib.Ieee.{to_bits, binary64}
+use lib.ListN.{length, take, drop}
 use lib.Seq.{length-take-le}
+use Rattle.std.specs.Prelude.{Result, Ok}
 use Rattle.words.specs.Words.{words}
 use Rattle.words.specs.Text.{written}
 use Rattle.words.proofs.TextLaws.{take-written}
 use Rattle.words.proofs.WordLaws.{length-words}
-use Rattle.reader.specs.Reading.{read_all, no as unread}
-use Rattle.reader.specs.Answer.{Reading}
-use Rattle.reader.specs.Answer.{Answer as ReadersAnswer}
-use Rattle.reader.specs.Answer.{Accepted, No}
+use Rattle.reader.specs.Reading.{read_all}
+use Rattle.reader.specs.Answer.{Reading, Answer, Accepted, No, told_as, told}
+use Rattle.reader.specs.declared.refusal.Refusal.{Refusal}
+use Rattle.reader.specs.declared.Sections.{Sections}
 use Rattle.plan.specs.Problem.{Problem, Genes}
-use Rattle.plan.specs.Found.{layout_of}
+use Rattle.plan.specs.Found.{layout_in, layout_of}
 use Rattle.plan.specs.Laid.{Laid}
 use Rattle.plan.specs.declared.Layout.{Layout}
 use Rattle.intake.specs.Intake.{problem_in, genes_in, taken_in}
-use Rattle.intake.specs.Sound.{Sound}
-use Rattle.intake.proofs.TakingLaws.{never_taken}
 use Rattle.intake.proofs.Soundness.{taken_in_means}
 use Rattle.rows.specs.Rows.{Columns, over}
 use Rattle.rows.proofs.RowLaws.{length-gathered}
 use Rattle.board.specs.Board.{Board}
 use Rattle.calls.specs.Outcome.{Outcome, no, sheet, answer_of, Leaves}
-use Rattle.calls.specs.declared.Answer.TheVariants.{Refused, Rows}
+use Rattle.calls.specs.declared.Sheet.{Sheet}
 use Rattle.calls.proofs.PrefixLaws.{prefix_is}
-use Rattle.decode.specs.Decode.{better_placement}
-use Rattle.decoding.specs.Decoding.{decoded_if, decoded_plan, board_sheet}
+use Rattle.decoding.specs.Decoding.{decoded_if, decoded_plan}
 use Rattle.writing.specs.Writing.{Put}
 use Rattle.writing.proofs.WritingLaws.{put_as, put_long}
-use Rattle.printing.specs.Printing.{sheet_text, refusal_text}
+use Rattle.printing.specs.Printing.{sheet_text}
 use Rattle.renewed.specs.Renewed.{renewed_bytes}
 use Rattle.renewed.specs.Meaning.{renewed_plan}
 use Rattle.renewed.proofs.RenewedLaws.{length_renewed}
 use Rattle.renewed.proofs.TakenLaws.{taken_read}
-use Rattle.search.specs.Search.{Improved, no_steps, incomplete, contradictory, nothing_better, improved, improve}
+use Rattle.search.specs.Search.{no_steps, incomplete, contradictory, nothing_better, improved}
 use Rattle.improving.specs.Improving.{Outcome as Improving, no as refused, came, answer_of as improve_answer, tasks_left, machines_left, improved_if, improved_plan, roomy, improved_in}
-use Rattle.improving.specs.declared.Answer.TheVariants.{NoSteps, Incomplete, Contradictory, NothingBetter, Better}
-use Rattle.improving.specs.declared.Answer.TheVariants as improving
+use Rattle.improving.specs.declared.Ending.TheVariants.{Better}
 use Rattle.improving.proofs.CallLaws.{roomy_on}
 use Rattle.terminal_text.specs.Shown.{sheet_or, decode_text, shown_if, shown, enough, PutShort, Within, shown_over, shown_length}
 use Rattle.terminal_text.proofs.SizedLaws.{Named, improve-named}
@@ -60,58 +57,36 @@ pub record Even (rows : ℕ) (c : Columns) : Type 0 where
   pub setups : length c.setups ≡ rows
 
 abbrev pub Columned : Outcome → Type 0
-Columned (no number place) = Unit {0}
+Columned (no reason place) = Unit {0}
 Columned (sheet rows c f) = Even rows c
 
 pub decoded_columned : (rule : Problem → Genes → Board) (s : List ℕ) → Columned (decoded_plan rule s)
 decoded_columned rule s = by_answer (taken_in s).answer
   where
-    by_answer : (a : ReadersAnswer) → Columned (decoded_if a rule s (taken_in s))
+    by_answer : (a : Answer) → Columned (decoded_if a rule s (taken_in s))
     by_answer Accepted =
         let b = rule (problem_in s (taken_in s)) (genes_in s (taken_in s)) in
         record { activities = refl; machines = length-gathered _ b.order; starts = length-gathered _ b.order; ends = length-gathered _ b.order; setups = length-gathered _ b.order }
-    by_answer (No number place) = tt
+    by_answer (No reason place) = tt
 
--- ---- a refusal, and a sheet
-
-pub refusal_shown : (outcome : ℕ) (o : Outcome) {number place : ℕ} → Refused number place ≡ answer_of o → refusal_text number place ≡ sheet_or outcome o
-refusal_shown outcome (no n p) {number} {place} e =
-    let a : number ≡ n = cc in
-    let b : place ≡ p = cc in
-    ap₂ refusal_text a b
-refusal_shown outcome (sheet rows c f) e = let z : ◌≡◌ {A = ℕ} 0 1 = cc in absurd (omega arith)
+-- ---- a sheet
 
 cut : {n rows : ℕ} (column cells : List ℕ) {x : List ℕ} → n ≡ rows → length column ≡ rows → x ≡ over column cells → take n x ≡ column
 cut {n} column cells en el e = ap (take n) e ∙ prefix_is n column (drop (length column) cells) (el ∙ sym en)
 
-pub sheet_shown : (outcome : ℕ) (o : Outcome) {n bits : ℕ} (a₀ m₀ s₀ e₀ u₀ : List ℕ) {a m s e u : List ℕ} → Rows n bits ≡ answer_of o → Columned o → Leaves o a₀ m₀ s₀ e₀ u₀ a m s e u
-    → sheet_text outcome bits (take n a) (take n m) (take n s) (take n e) (take n u) ≡ sheet_or outcome o
-sheet_shown outcome (no number place) a₀ m₀ s₀ e₀ u₀ told even left = let z : ◌≡◌ {A = ℕ} 0 1 = cc in absurd (omega arith)
-sheet_shown outcome (sheet rows c f) {n} {bits} a₀ m₀ s₀ e₀ u₀ told even left =
-    let en : n ≡ rows = cc in
-    let eb : bits ≡ to_bits binary64 f = cc in
+pub sheet_shown : (outcome : ℕ) (o : Outcome) {x : Sheet} (a₀ m₀ s₀ e₀ u₀ : List ℕ) {a m s e u : List ℕ} → Ok x ≡ answer_of o → Columned o → Leaves o a₀ m₀ s₀ e₀ u₀ a m s e u
+    → sheet_text outcome x.bits (take x.rows a) (take x.rows m) (take x.rows s) (take x.rows e) (take x.rows u) ≡ sheet_or outcome o
+sheet_shown outcome (no reason place) a₀ m₀ s₀ e₀ u₀ told even left = cc
+sheet_shown outcome (sheet rows c f) {x} a₀ m₀ s₀ e₀ u₀ told even left =
+    let same : x ≡ record { rows = rows; bits = to_bits binary64 f } = cc in
+    let en : x.rows ≡ rows = ap (λ (y : Sheet). y.rows) same in
+    let eb : x.bits ≡ to_bits binary64 f = ap (λ (y : Sheet). y.bits) same in
     let ca = cut c.activities a₀ en even.activities left.activities in
     let cm = cut c.machines m₀ en even.machines left.machines in
     let cs = cut c.starts s₀ en even.starts left.starts in
     let ce = cut c.ends e₀ en even.ends left.ends in
     let cu = cut c.setups u₀ en even.setups left.setups in
     rw (eb, ca, cm, cs, ce, cu)
-
--- As many cells as rows are within a buffer.
-column_room : {n rows : ℕ} (column cells : List ℕ) {x : List ℕ} → n ≡ rows → length column ≡ rows → x ≡ over column cells → n ≤ length x
-column_room column cells {x} en el e = omega (arith, en, el, ap length e, length-append column (drop (length column) cells))
-
-pub sheet_room : (o : Outcome) {n bits : ℕ} (a₀ m₀ s₀ e₀ u₀ : List ℕ) {a m s e u : List ℕ} → Rows n bits ≡ answer_of o → Columned o → Leaves o a₀ m₀ s₀ e₀ u₀ a m s e u
-    → (n ≤ length a) × (n ≤ length m) × (n ≤ length s) × (n ≤ length e) × (n ≤ length u)
-sheet_room (no number place) a₀ m₀ s₀ e₀ u₀ told even left = let z : ◌≡◌ {A = ℕ} 0 1 = cc in absurd (omega arith)
-sheet_room (sheet rows c f) {n} {bits} a₀ m₀ s₀ e₀ u₀ told even left =
-    let en : n ≡ rows = cc in (
-      column_room c.activities a₀ en even.activities left.activities,
-      column_room c.machines m₀ en even.machines left.machines,
-      column_room c.starts s₀ en even.starts left.starts,
-      column_room c.ends e₀ en even.ends left.ends,
-      column_room c.setups u₀ en even.setups left.setups,
-    )
 
 -- ---- a plan that was taken in
 
@@ -135,18 +110,19 @@ laid_short s z l =
       room = omega (arith, a₃, l.some_activities.1);
     }
 
-pub taken_short : (s : List ℕ) {r : Reading} {z : Layout} → r ≡ taken_in s → r.answer ≡ Accepted → z ≡ layout_of r → Short s z
-taken_short s {r} e t ez = rw ez (laid_short s (layout_of r) (taken_in_means s r e t).laid)
+module _ (s : List ℕ) (t : (taken_in s).answer ≡ Accepted) where
+  read_answer : (read_all s).answer ≡ Accepted
+  read_answer = ap (λ (x : Reading). x.answer) (sym (taken_read s t)) ∙ t
 
-module _ (s : List ℕ) {r : Reading} {z : Layout} (t : (taken_in s).answer ≡ Accepted) (er : r ≡ read_all s) (ez : z ≡ layout_of r) where
-  same : r ≡ taken_in s
-  same = er ∙ sym (taken_read s t)
+  module _ {r : Result Sections Refusal} {x : Sections} {z : Layout} (er : r ≡ told (read_all s)) (ex : r ≡ Ok x) (ez : z ≡ layout_in x.known x.starts) where
+    same : x ≡ record { known = (read_all s).known; starts = (read_all s).starts }
+    same = let e = sym ex ∙ er ∙ ap (λ (a : Answer). told_as a (read_all s).known (read_all s).starts) read_answer in cc
 
-  pub read_short : Short s z
-  read_short = taken_short s same (ap (λ (x : Reading). x.answer) same ∙ t) ez
+    pub read_layout : z ≡ layout_of (taken_in s)
+    read_layout = ez ∙ ap (λ (y : Sections). layout_in y.known y.starts) same ∙ ap layout_of (sym (taken_read s t))
 
-  pub read_layout : z ≡ layout_of (taken_in s)
-  read_layout = ez ∙ ap layout_of same
+    pub read_short : Short s z
+    read_short = rw read_layout (laid_short s (layout_of (taken_in s)) (taken_in_means s (taken_in s) refl t).laid)
 
 -- A text put at the start of a buffer is what the buffer then starts with.
 pub first_put : (line text : List ℕ) {bytes : List ℕ} {n : ℕ} → length text ≤ length line → bytes ≡ written line 0 text → n ≡ length text → take n bytes ≡ text
@@ -175,108 +151,26 @@ module _ (s tasks machines : List ℕ) (z : Layout) (short : Short s z) (ht : 12
 -- ---- Improve's answer, case by case
 
 module _ (s : List ℕ) where
-  pub refused_shown : (o : Improving) {number place : ℕ} → improving.Refused number place ≡ improve_answer o → refusal_text number place ≡ shown_if o s
-  refused_shown (refused a b) {number} {place} e =
-      let x : number ≡ a = cc in let y : place ≡ b = cc in ap₂ refusal_text x y
-  refused_shown (came no_steps) {number} {place} e =
-      let z : ◌≡◌ {A = ℕ} 0 1 = cc in absurd (omega arith)
-  refused_shown (came incomplete) {number} {place} e =
-      let z : ◌≡◌ {A = ℕ} 0 1 = cc in absurd (omega arith)
-  refused_shown (came contradictory) {number} {place} e =
-      let z : ◌≡◌ {A = ℕ} 0 1 = cc in absurd (omega arith)
-  refused_shown (came (nothing_better f)) {number} {place} e =
-      let z : ◌≡◌ {A = ℕ} 0 1 = cc in absurd (omega arith)
-  refused_shown (came (improved f t m)) {number} {place} e =
-      let z : ◌≡◌ {A = ℕ} 0 1 = cc in absurd (omega arith)
-
-  pub ten_shown : (o : Improving) → NoSteps ≡ improve_answer o → decode_text 10 s ≡ shown_if o s
-  ten_shown (refused a b) e =
-      let z : ◌≡◌ {A = ℕ} 0 1 = cc in absurd (omega arith)
-  ten_shown (came no_steps) e =
-      refl
-  ten_shown (came incomplete) e =
-      let z : ◌≡◌ {A = ℕ} 0 1 = cc in absurd (omega arith)
-  ten_shown (came contradictory) e =
-      let z : ◌≡◌ {A = ℕ} 0 1 = cc in absurd (omega arith)
-  ten_shown (came (nothing_better f)) e =
-      let z : ◌≡◌ {A = ℕ} 0 1 = cc in absurd (omega arith)
-  ten_shown (came (improved f t m)) e =
-      let z : ◌≡◌ {A = ℕ} 0 1 = cc in absurd (omega arith)
-
-  pub eleven_shown : (o : Improving) → Incomplete ≡ improve_answer o → decode_text 11 s ≡ shown_if o s
-  eleven_shown (refused a b) e =
-      let z : ◌≡◌ {A = ℕ} 0 1 = cc in absurd (omega arith)
-  eleven_shown (came no_steps) e =
-      let z : ◌≡◌ {A = ℕ} 0 1 = cc in absurd (omega arith)
-  eleven_shown (came incomplete) e =
-      refl
-  eleven_shown (came contradictory) e =
-      let z : ◌≡◌ {A = ℕ} 0 1 = cc in absurd (omega arith)
-  eleven_shown (came (nothing_better f)) e =
-      let z : ◌≡◌ {A = ℕ} 0 1 = cc in absurd (omega arith)
-  eleven_shown (came (improved f t m)) e =
-      let z : ◌≡◌ {A = ℕ} 0 1 = cc in absurd (omega arith)
-
-  pub twelve_shown : (o : Improving) → Contradictory ≡ improve_answer o → decode_text 12 s ≡ shown_if o s
-  twelve_shown (refused a b) e =
-      let z : ◌≡◌ {A = ℕ} 0 1 = cc in absurd (omega arith)
-  twelve_shown (came no_steps) e =
-      let z : ◌≡◌ {A = ℕ} 0 1 = cc in absurd (omega arith)
-  twelve_shown (came incomplete) e =
-      let z : ◌≡◌ {A = ℕ} 0 1 = cc in absurd (omega arith)
-  twelve_shown (came contradictory) e =
-      refl
-  twelve_shown (came (nothing_better f)) e =
-      let z : ◌≡◌ {A = ℕ} 0 1 = cc in absurd (omega arith)
-  twelve_shown (came (improved f t m)) e =
-      let z : ◌≡◌ {A = ℕ} 0 1 = cc in absurd (omega arith)
-
-  pub thirteen_shown : (o : Improving) {bits : ℕ} → NothingBetter bits ≡ improve_answer o → decode_text 13 s ≡ shown_if o s
-  thirteen_shown (refused a b) {bits} e =
-      let z : ◌≡◌ {A = ℕ} 0 1 = cc in absurd (omega arith)
-  thirteen_shown (came no_steps) {bits} e =
-      let z : ◌≡◌ {A = ℕ} 0 1 = cc in absurd (omega arith)
-  thirteen_shown (came incomplete) {bits} e =
-      let z : ◌≡◌ {A = ℕ} 0 1 = cc in absurd (omega arith)
-  thirteen_shown (came contradictory) {bits} e =
-      let z : ◌≡◌ {A = ℕ} 0 1 = cc in absurd (omega arith)
-  thirteen_shown (came (nothing_better f)) {bits} e =
-      refl
-  thirteen_shown (came (improved f t m)) {bits} e =
-      let z : ◌≡◌ {A = ℕ} 0 1 = cc in absurd (omega arith)
-
   abbrev pub Told : Problem → Improving → Type 0
-  Told p (refused a b) = Unit {0}
+  Told p (refused reason place) = Unit {0}
   Told p (came i) = Named p i
 
-  pub fourteen_shown : (o : Improving) (p : Problem) → Told p o → {bits : ℕ} → Better bits ≡ improve_answer o → (tasks₀ machines₀ : List ℕ) {tasks machines : List ℕ} → tasks ≡ tasks_left o tasks₀ → machines ≡ machines_left o machines₀
+  pub fourteen_shown : (o : Improving) (p : Problem) → Told p o → {bits : ℕ} → Ok (Better bits) ≡ improve_answer o → (tasks₀ machines₀ : List ℕ) {tasks machines : List ℕ} → tasks ≡ tasks_left o tasks₀ → machines ≡ machines_left o machines₀
       → decode_text 14 (renewed_plan s (take p.n tasks) (take p.n machines)) ≡ shown_if o s
-  fourteen_shown (refused a b) p named {bits} e tasks₀ machines₀ et em =
-      let z : ◌≡◌ {A = ℕ} 0 1 = cc in absurd (omega arith)
-  fourteen_shown (came no_steps) p named {bits} e tasks₀ machines₀ et em =
-      let z : ◌≡◌ {A = ℕ} 0 1 = cc in absurd (omega arith)
-  fourteen_shown (came incomplete) p named {bits} e tasks₀ machines₀ et em =
-      let z : ◌≡◌ {A = ℕ} 0 1 = cc in absurd (omega arith)
-  fourteen_shown (came contradictory) p named {bits} e tasks₀ machines₀ et em =
-      let z : ◌≡◌ {A = ℕ} 0 1 = cc in absurd (omega arith)
-  fourteen_shown (came (nothing_better f)) p named {bits} e tasks₀ machines₀ et em =
-      let z : ◌≡◌ {A = ℕ} 0 1 = cc in absurd (omega arith)
-  fourteen_shown (came (improved f t m)) p named {bits} e tasks₀ machines₀ et em =
+  fourteen_shown (refused reason place) p named e tasks₀ machines₀ et em = cc
+  fourteen_shown (came no_steps) p named e tasks₀ machines₀ et em = cc
+  fourteen_shown (came incomplete) p named e tasks₀ machines₀ et em = cc
+  fourteen_shown (came contradictory) p named e tasks₀ machines₀ et em = cc
+  fourteen_shown (came (nothing_better f)) p named e tasks₀ machines₀ et em = cc
+  fourteen_shown (came (improved f t m)) p named e tasks₀ machines₀ et em =
       ap₂ (λ (x y : List ℕ). decode_text 14 (renewed_plan s x y)) (cut t tasks₀ refl named.0 et) (cut m machines₀ refl named.1 em)
 
   pub plan-told : Told (problem_in s (taken_in s)) (improved_plan s)
   plan-told = by_answer (taken_in s).answer
     where
-      by_answer : (a : ReadersAnswer) → Told (problem_in s (taken_in s)) (improved_if a s (taken_in s))
+      by_answer : (a : Answer) → Told (problem_in s (taken_in s)) (improved_if a s (taken_in s))
       by_answer Accepted = improve-named (problem_in s (taken_in s)) (genes_in s (taken_in s))
-      by_answer (No number place) = tt
-
-  pub better_taken : {bits : ℕ} → Better bits ≡ improve_answer (improved_plan s) → (taken_in s).answer ≡ Accepted
-  better_taken {bits} e = by_answer (taken_in s).answer e
-    where
-      by_answer : (a : ReadersAnswer) → Better bits ≡ improve_answer (improved_if a s (taken_in s)) → a ≡ Accepted
-      by_answer Accepted e = refl
-      by_answer (No number place) e = let z : ◌≡◌ {A = ℕ} 0 1 = cc in absurd (omega arith)
+      by_answer (No reason place) = tt
 
   -- buffers of the sizes asked for
   pub plan_in : (cells tasks machines : List ℕ) → length cells ≡ 2048 → length tasks ≡ 128 → length machines ≡ 128 → improved_plan s ≡ improved_in s cells tasks machines
@@ -294,10 +188,6 @@ cond_false false x y e = refl
 
 pub short_as : {line₀ t u line : List ℕ} {place : ℕ} → t ≡ u → PutShort line₀ t line place → PutShort line₀ u line place
 short_as e p = (put_as e p.0, p.1)
-
--- A refusal is one line.
-pub refusal_short : {line₀ t u line : List ℕ} {place : ℕ} → t ≡ u → Put line₀ 0 t line place × (place ≤ 64) → PutShort line₀ u line place
-refusal_short e p = (put_as e p.0, omega (arith, p.1))
 
 -- A sheet has at most 128 rows.
 pub rows_short : {line₀ t line : List ℕ} {place : ℕ} (n : ℕ) (column : List ℕ) → n ≤ 128 → n ≤ length column → Put line₀ 0 t line place × (place ≤ 64 + 105 * length (take n column)) → PutShort line₀ t line place
