@@ -34,7 +34,7 @@ use Rattle.reader.specs.Answer.{Answer}
 use Rattle.reader.specs.Answer.{Accepted as Read, No}
 use Rattle.reader.specs.Refusals.{refusal}
 use Rattle.reader.specs.declared.refusal.Reason.{Reason}
-use Rattle.reader.specs.declared.refusal.Reason.TheVariants.{Room, Lines as Missed, Contradiction}
+use Rattle.reader.specs.declared.refusal.Reason.TheVariants.{Lines as Missed, Contradiction}
 use Rattle.reader.specs.declared.refusal.Refusal.{Refusal}
 use Rattle.plan.specs.Found.{layout_of}
 use Rattle.plan.specs.declared.Layout.{Layout}
@@ -143,14 +143,6 @@ leaves_as {x} {y} {a₀} {m₀} {s₀} {e₀} {u₀} {a} {m} {s} {e} {u} q w = s
 -- ---- number 6
 
 module _ (o : Outcome) where
-  pub six-answer : (b : Bool) → b ≡ false → Err (refusal Room 0) ≡ answer_of (six_unless b o)
-  six-answer true e = absurd (false≢true (sym e))
-  six-answer false e = refl
-
-  pub six-leaves : (b : Bool) → b ≡ false → {a₀ m₀ s₀ e₀ u₀ : List ℕ} → Leaves (six_unless b o) a₀ m₀ s₀ e₀ u₀ a₀ m₀ s₀ e₀ u₀
-  six-leaves true e = absurd (false≢true (sym e))
-  six-leaves false e = record { activities = refl; machines = refl; starts = refl; ends = refl; setups = refl }
-
   pub roomy_on : (b : Bool) → b ≡ true → o ≡ six_unless b o
   roomy_on true e = refl
   roomy_on false e = absurd (false≢true e)
@@ -233,9 +225,6 @@ module _ (s : List ℕ) {z : Layout} (e : Ok z ≡ laid_out (taken_in s)) where
 module _ (s : List ℕ) {f : Refusal} (e : Err f ≡ laid_out (taken_in s)) where
   pub refused_timed : (lines : Lines) → no f.reason f.place ≡ timed_plan s lines
   refused_timed lines = not_taken s lines refl (refused_so (taken_in s) e)
-
-  pub refused_ordered : no f.reason f.place ≡ ordered_plan s
-  refused_ordered = not_ordered s refl (refused_so (taken_in s) e)
 
 pub rows_room : (a m s e u : List ℕ) → roomy a m s e u ≡ true → Roomy 128 a m s e u
 rows_room a m s e u q = (roomy_means (replicate 2048 0) a m s e u q).1

@@ -3,19 +3,18 @@ use Prim.Native.Nat.{ℕ}
 use mathlib.Core.Path.{◌≡◌, refl, sym, ap, ◌∙◌}
 use mathlib.Core.Bool.{Bool, true, false, not}
 use mathlib.Core.List.{List}
-use Rattle.std.specs.Prelude.{Ok, Err}
+use Rattle.std.specs.Prelude.{Ok}
 use Rattle.words.specs.Words.{words}
 use Rattle.graph.proofs.BoolLaws.{denied, granted}
 use Rattle.reader.specs.Answer.{Reading}
 use Rattle.reader.specs.Answer.{Answer}
 use Rattle.reader.specs.Answer.{Accepted, No}
 use Rattle.reader.specs.declared.refusal.Reason.{Reason}
-use Rattle.reader.specs.declared.refusal.Refusal.{Refusal}
 use Rattle.plan.specs.Problem.{Problem, Genes}
 use Rattle.plan.specs.Input.{problem_of, genes_of}
 use Rattle.plan.specs.declared.Layout.{Layout}
 use Rattle.intake.specs.Intake.{problem_in, genes_in, taken_in, laid_out}
-use Rattle.intake.proofs.TakingLaws.{took, refused_so}
+use Rattle.intake.proofs.TakingLaws.{took}
 use Rattle.board.specs.Board.{Board}
 use Rattle.calls.specs.Outcome.{no}
 use Rattle.decoding.specs.Decoding.{board_sheet, decoded_if, decoded_plan}
@@ -29,16 +28,13 @@ module _ (rule : Problem → Genes → Board) (s : List ℕ) {r : Reading} (e : 
       ap (λ (x : Reading). board_sheet (problem_in s x) (genes_in s x) (rule (problem_in s x) (genes_in s x))) e
       ∙ ap (λ (x : Answer). decoded_if x rule s (taken_in s)) (sym a ∙ ap (λ (x : Reading). x.answer) e)
 
--- .. of a layout that was answered, and of a refusal.
+-- .. of a layout that was answered.
 module _ (rule : Problem → Genes → Board) (s : List ℕ) where
-  pub laid-decoded : {z : Layout} → Ok z ≡ laid_out (taken_in s)
+  pub laid_decoded : {z : Layout} → Ok z ≡ laid_out (taken_in s)
       → board_sheet (problem_of (words s) z) (genes_of (words s) z) (rule (problem_of (words s) z) (genes_of (words s) z)) ≡ decoded_plan rule s
-  laid-decoded e =
+  laid_decoded e =
       let k = took (taken_in s) e in
       ap (λ (x : Layout). board_sheet (problem_of (words s) x) (genes_of (words s) x) (rule (problem_of (words s) x) (genes_of (words s) x))) k.1 ∙ decoded_plan' rule s refl k.0
-
-  pub refused-decoded : {f : Refusal} → Err f ≡ laid_out (taken_in s) → no f.reason f.place ≡ decoded_plan rule s
-  refused-decoded e = not_decoded rule s refl (refused_so (taken_in s) e)
 
 -- Whether the results have room, as it was tested.
 pub has_room : (room : Bool) {r : Bool} → r ≡ room → not r ≡ false → room ≡ true

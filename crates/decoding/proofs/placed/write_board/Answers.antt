@@ -1,5 +1,4 @@
 -- `decoding::write_board` meets its contract.
-use mathlib.Core.Path.{refl}
 use lib.ListN.{replicate}
 use Rattle.words.specs.Words.{words}
 use Rattle.plan.specs.Input.{problem_of, genes_of}
@@ -10,10 +9,10 @@ use Rattle.decoding.proofs.placed.write_board.Goals as goal
 pub write-requires : goal.write-requires
 write-requires c = record { roomy = roomy_for (laid_few c.requires.taken.1 c.requires.taken.0.accepted.activities.1) c.requires.roomy; below = laid_asks c.requires.taken.1 c.requires.taken.0.accepted.activities.1 c.fill_machines.new.machines c.fill_machines.auto.machines }
 
-pub fitness_bits-requires : goal.fitness_bits-requires
-fitness_bits-requires c = record { placed = (c.requires.taken.0.placed, c.requires.taken.0.accepted, c.requires.taken.0.weighed); ended = laid-ended c.requires.taken.1 c.requires.taken.0.accepted.activities.1 }
+pub fitness_bits-requires-clause-ended : goal.fitness_bits-requires-clause-ended
+fitness_bits-requires-clause-ended c = laid-ended c.requires.taken.1 c.requires.taken.0.accepted.activities.1
 
-pub returns : goal.returns
-returns c = let p = problem_of (words c.args.s.now) c.args.z in
+pub returns-clause-rows : goal.returns-clause-rows
+returns-clause-rows c = let p = problem_of (words c.args.s.now) c.args.z in
     let g = genes_of (words c.args.s.now) c.args.z in
-    record { answer = rw c.fitness_bits.ensures refl; rows = written-leaves p g (replicate 128 0) c.args.order.now c.args.begun.now c.args.done.now c.args.prepared.now c.requires.taken.0.accepted.activities.1 c.fill_machines.ensures.machines_after (laid_known c.requires.taken.1 c.requires.taken.0.accepted.activities.1) c.write.ensures }
+    written-leaves p g (replicate 128 0) c.args.order.now c.args.begun.now c.args.done.now c.args.prepared.now c.requires.taken.0.accepted.activities.1 c.fill_machines.ensures.machines_after (laid_known c.requires.taken.1 c.requires.taken.0.accepted.activities.1) c.write.ensures
