@@ -189,6 +189,10 @@ cond_false false x y e = refl
 pub short_as : {line₀ t u line : List ℕ} {place : ℕ} → t ≡ u → PutShort line₀ t line place → PutShort line₀ u line place
 short_as e p = (put_as e p.0, p.1)
 
+-- A refusal is one line.
+pub refusal_short : {line₀ t u line : List ℕ} {place : ℕ} → t ≡ u → Put line₀ 0 t line place × (place ≤ 64) → PutShort line₀ u line place
+refusal_short e p = (put_as e p.0, omega (arith, p.1))
+
 -- A sheet has at most 128 rows.
 pub rows_short : {line₀ t line : List ℕ} {place : ℕ} (n : ℕ) (column : List ℕ) → n ≤ 128 → n ≤ length column → Put line₀ 0 t line place × (place ≤ 64 + 105 * length (take n column)) → PutShort line₀ t line place
 rows_short n column few h p = let long = length-take-le n column h in (p.0, omega (arith, p.1, long, few))
