@@ -30,10 +30,6 @@ pub record Going (p : Problem) (lines : Lines) (times : ℕ) (before after on pl
   pub agreed : 0 < i → contradicts p lines ≡ false
   pub timed : 0 < i → Timed p lines order begun done
 
-pub begin : (p : Problem) (lines : Lines) (times : ℕ) {before after on places order begun done : List ℕ} → Rooms p.n before after on places order begun done
-    → Going p lines times before after on places order begun done 0
-begin p lines times r = record { within = omega arith; rooms = r; agreed = λ h. absurd (omega arith); timed = λ h. absurd (omega arith) }
-
 module _ (p : Problem) (lines : Lines) where
   pub stopped : (times : ℕ) (b : Bool) → b ≡ true → 0 ≡ last_of times b p lines
   stopped zero b e = refl

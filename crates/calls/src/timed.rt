@@ -4,7 +4,7 @@ ghost use Rattle.words.specs.Words.{words};
 ghost use Rattle.plan.specs.Input.{problem_of, genes_of};
 ghost use Rattle.lines.specs.Lines.{lines_in, WellFormed};
 ghost use Rattle.timing.specs.Timing.{contradicts};
-ghost use Rattle.timing.specs.Placing.{Seated, Timed, Rooms};
+ghost use Rattle.timing.specs.Placing.{Seated, Timed};
 ghost use Rattle.rows.specs.Rows.{Roomy, Written};
 ghost use Rattle.calls.specs.Outcome.{answer_of, Leaves};
 ghost use Rattle.calls.specs.Timing.{sheet_of, eight_if, timed_lines, timed_genes, timed, timed_order, roomy};
@@ -68,51 +68,7 @@ fn write_sheet(
     );
 }
 
-// Number 8 where the lines contradict, else their rows. The first seven buffers are work space, a cell for each activity.
-fn time_in(
-    s: &[u8],
-    z: Layout,
-    table: &[usize],
-    cells: &[usize],
-    lens: [usize; 16],
-    before: &mut [usize],
-    after: &mut [usize],
-    on: &mut [usize],
-    places: &mut [usize],
-    order: &mut [usize],
-    begun: &mut [u64],
-    done: &mut [u64],
-    activities: &mut [usize],
-    machines: &mut [usize],
-    starts: &mut [u64],
-    ends: &mut [u64],
-    setups: &mut [u64],
-) -> Result<Sheet, Refusal>
-    requires taken { Taken s.now z table.now × (length cells.now ≡ 2048) × WellFormed z.activities z.machines (lines_in cells.now lens) }
-    requires rooms { Rooms z.activities before.old after.old on.old places.old order.old begun.old done.old × Roomy 128 activities.old machines.old starts.old ends.old setups.old }
-    ensures answer { result ≡ answer_of (eight_if (contradicts (problem_of (words s.now) z) (lines_in cells.now lens)) (problem_of (words s.now) z) (lines_in cells.now lens)) }
-    ensures rows { Leaves (eight_if (contradicts (problem_of (words s.now) z) (lines_in cells.now lens)) (problem_of (words s.now) z) (lines_in cells.now lens)) activities.old machines.old starts.old ends.old setups.old activities.new machines.new starts.new ends.new setups.new }
-{
-    let ways = plan::transports(s, z);
-    if !timing::time_sequences(
-        s, z, table, ways, cells, lens, before, after, on, places, order, begun, done,
-    ) {
-        return Err(Refusal {
-            reason: Reason::Contradiction,
-            place: 0,
-        });
-    }
-    write_sheet(
-        s, z, table, cells, lens, before, on, order, begun, done, activities, machines, starts,
-        ends, setups,
-    );
-    Ok(Sheet {
-        rows: z.activities,
-        bits: fitness::fitness_bits(s, z, done),
-    })
-}
-
-// The same with work space of its own.
+// Number 8 where the lines contradict, else their rows.
 fn time_lines(
     s: &[u8],
     z: Layout,
@@ -131,32 +87,37 @@ fn time_lines(
     ensures rows { Leaves (eight_if (contradicts (problem_of (words s.now) z) (lines_in cells.now lens)) (problem_of (words s.now) z) (lines_in cells.now lens)) activities.old machines.old starts.old ends.old setups.old activities.new machines.new starts.new ends.new setups.new }
 {
     let n = z.activities;
-    let mut before = [0usize; 128];
-    let mut after = [0usize; 128];
-    let mut on = [0usize; 128];
-    let mut places = [0usize; 128];
-    let mut order = [0usize; 128];
-    let mut begun = [0u64; 128];
-    let mut done = [0u64; 128];
-    time_in(
-        s,
-        z,
-        table,
-        cells,
-        lens,
-        &mut before[..n],
-        &mut after[..n],
-        &mut on[..n],
-        &mut places[..n],
-        &mut order[..n],
-        &mut begun[..n],
-        &mut done[..n],
-        activities,
-        machines,
-        starts,
-        ends,
-        setups,
-    )
+    let mut before_room = [0usize; 128];
+    let mut after_room = [0usize; 128];
+    let mut on_room = [0usize; 128];
+    let mut places_room = [0usize; 128];
+    let mut order_room = [0usize; 128];
+    let mut begun_room = [0u64; 128];
+    let mut done_room = [0u64; 128];
+    let before = &mut before_room[..n];
+    let after = &mut after_room[..n];
+    let on = &mut on_room[..n];
+    let places = &mut places_room[..n];
+    let order = &mut order_room[..n];
+    let begun = &mut begun_room[..n];
+    let done = &mut done_room[..n];
+    let ways = plan::transports(s, z);
+    if !timing::time_sequences(
+        s, z, table, ways, cells, lens, before, after, on, places, order, begun, done,
+    ) {
+        return Err(Refusal {
+            reason: Reason::Contradiction,
+            place: 0,
+        });
+    }
+    write_sheet(
+        s, z, table, cells, lens, before, on, order, begun, done, activities, machines, starts,
+        ends, setups,
+    );
+    Ok(Sheet {
+        rows: z.activities,
+        bits: fitness::fitness_bits(s, z, done),
+    })
 }
 
 // Number 7 where the lines do not hold each activity once on the machines that there are.

@@ -1,5 +1,5 @@
 use Rattle.std.specs.Prelude.{is_some}
-use mathlib.Core.Path.{sym, ap, ◌∙◌}
+use mathlib.Core.Path.{ap, ◌∙◌}
 use Rattle.words.specs.Words.{words}
 use Rattle.plan.specs.Input.{problem_of, genes_of}
 use Rattle.genes.specs.Indexed.{misses}
