@@ -3,8 +3,7 @@ use Prim.Native.Nat.{ℕ, ◌≤◌}
 use mathlib.Core.Path.{◌≡◌, sym, ap, ◌∙◌, subst}
 use mathlib.Core.List.{List}
 use native.Mathlib.Omega.{arith}
-use lib.ListN.{length, get_or, take, replicate}
-use lib.Seq.{length-take-le}
+use lib.ListN.{length, get_or, take}
 use Rattle.graph.specs.Counting.{count_of}
 use Rattle.graph.proofs.CountingLaws.{count_all, sum_to-le}
 use Rattle.fitness.specs.Ended.{Ended}
@@ -12,7 +11,7 @@ use Rattle.genes.specs.Held.{Listed}
 use Rattle.board.specs.Board.{Board}
 use Rattle.board.specs.Sound.{Sound}
 use Rattle.board.proofs.BoardLaws.{ends_within}
-use Rattle.in_order.specs.Waiting.{Rooms, Timed}
+use Rattle.in_order.specs.Waiting.{Timed}
 
 pub sheet_ended : {n : ℕ} {b : Board} → n ≤ 128 → Sound n b → {ends : List ℕ} → ends ≡ b.ends → Ended n ends
 sheet_ended {n} {b} h s {ends} e =
@@ -31,13 +30,6 @@ rows_there b l s h e = omega (arith, l.whole, few_rows s, h, e)
 
 pub rows_long : {list before after : List ℕ} {count : ℕ} → Listed list before after count → count ≡ length (take count after)
 rows_long l = l.whole ∙ ap length (sym l.listed)
-
--- The first n of 128 zeros.
-pub zeros_long : (n : ℕ) → n ≤ 128 → length (take n (replicate {A = ℕ} 128 0)) ≡ n
-zeros_long n h = length-take-le {A = ℕ} n (replicate 128 0) h
-
-pub zeros-roomy : (n : ℕ) → n ≤ 128 → Rooms n (replicate {A = ℕ} 128 0) (take n (replicate {A = ℕ} 128 0)) (take n (replicate {A = ℕ} 128 0)) (take n (replicate {A = ℕ} 128 0))
-zeros-roomy n h = record { ordered = h; begun = zeros_long n h; ended = zeros_long n h; prepared = zeros_long n h }
 
 -- ---- which sheet it is
 

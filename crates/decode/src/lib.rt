@@ -75,44 +75,9 @@ fn active_sheet(
     Sheet { rows, fitness }
 }
 
-// The better sheet. The first five buffers are work space: both orders are held apart, so that no cell after the last row is touched, and
-// so are the active times, which are copied where they are used.
-fn better_in(
-    s: &[u8],
-    z: Layout,
-    table: &[usize],
-    ways: [[u32; 16]; 16],
-    taken: &mut [usize],
-    chosen: &mut [usize],
-    begun: &mut [u64],
-    done: &mut [u64],
-    prepared: &mut [u64],
-    order: &mut [usize],
-    starts: &mut [u64],
-    ends: &mut [u64],
-    setups: &mut [u64],
-) -> usize
-    requires placed { Placed z × Accepted (problem_of (words s.now) z) (genes_of (words s.now) z) × Tabled (problem_of (words s.now) z) table.now × (ways ≡ transports_of (problem_of (words s.now) z)) }
-    requires weighed { Weighed (words s.now) z × Rooms z.activities order.old starts.old ends.old setups.old }
-    requires activities_in_bounds { (z.activities ≤ length taken.old) × Rooms z.activities chosen.old begun.old done.old prepared.old }
-    ensures order { Listed (better_placement (problem_of (words s.now) z) (genes_of (words s.now) z)).order order.old order.new result }
-    ensures times { Timed (better_placement (problem_of (words s.now) z) (genes_of (words s.now) z)) starts.new ends.new setups.new }
-{
-    let usual = in_order_sheet(s, z, table, ways, taken, starts, ends, setups);
-    let tight = active_sheet(s, z, table, chosen, begun, done, prepared);
-    if tight.fitness < usual.fitness {
-        starts.copy_from_slice(begun);
-        ends.copy_from_slice(done);
-        setups.copy_from_slice(prepared);
-        let rows = tight.rows;
-        return put_rows(&chosen[..rows], order);
-    }
-    let rows = usual.rows;
-    put_rows(&taken[..rows], order)
-}
-
 // Places what the genes give by the decoder whose sheet is better, in order unless active is strictly less: writes the activities placed, in
-// placing order, and the start, the end and the setup of each by its number, and answers how many are placed.
+// placing order, and the start, the end and the setup of each by its number, and answers how many are placed. Both
+// orders are held apart, so that no cell after the last row is touched, and so are the active times, which are copied where they are used.
 pub fn better_placement(
     s: &[u8],
     z: Layout,
@@ -131,22 +96,21 @@ pub fn better_placement(
     let n = z.activities;
     let mut taken = [0usize; 128];
     let mut chosen = [0usize; 128];
-    let mut begun = [0u64; 128];
-    let mut done = [0u64; 128];
-    let mut prepared = [0u64; 128];
-    better_in(
-        s,
-        z,
-        table,
-        ways,
-        &mut taken,
-        &mut chosen,
-        &mut begun[..n],
-        &mut done[..n],
-        &mut prepared[..n],
-        order,
-        starts,
-        ends,
-        setups,
-    )
+    let mut begun_room = [0u64; 128];
+    let mut done_room = [0u64; 128];
+    let mut prepared_room = [0u64; 128];
+    let begun = &mut begun_room[..n];
+    let done = &mut done_room[..n];
+    let prepared = &mut prepared_room[..n];
+    let usual = in_order_sheet(s, z, table, ways, &mut taken, starts, ends, setups);
+    let tight = active_sheet(s, z, table, &mut chosen, begun, done, prepared);
+    if tight.fitness < usual.fitness {
+        starts.copy_from_slice(begun);
+        ends.copy_from_slice(done);
+        setups.copy_from_slice(prepared);
+        let rows = tight.rows;
+        return put_rows(&chosen[..rows], order);
+    }
+    let rows = usual.rows;
+    put_rows(&taken[..rows], order)
 }

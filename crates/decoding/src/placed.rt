@@ -72,45 +72,7 @@ fn write_board(
     }
 }
 
-// Places and writes. The first four buffers are work space.
-fn write_in(
-    which: Decoder,
-    s: &[u8],
-    z: Layout,
-    table: &[usize],
-    order: &mut [usize],
-    begun: &mut [u64],
-    done: &mut [u64],
-    prepared: &mut [u64],
-    activities: &mut [usize],
-    machines: &mut [usize],
-    starts: &mut [u64],
-    ends: &mut [u64],
-    setups: &mut [u64],
-) -> Sheet
-    requires taken { Taken s.now z table.now × Rooms z.activities order.old begun.old done.old prepared.old }
-    requires roomy { Roomy 128 activities.old machines.old starts.old ends.old setups.old }
-    ensures answer { Ok result ≡ answer_of (board_sheet (problem_of (words s.now) z) (genes_of (words s.now) z) (rule_of which (problem_of (words s.now) z) (genes_of (words s.now) z))) }
-    ensures rows { Leaves (board_sheet (problem_of (words s.now) z) (genes_of (words s.now) z) (rule_of which (problem_of (words s.now) z) (genes_of (words s.now) z))) activities.old machines.old starts.old ends.old setups.old activities.new machines.new starts.new ends.new setups.new }
-{
-    let count = place_by(which, s, z, table, order, begun, done, prepared);
-    write_board(
-        s,
-        z,
-        table,
-        &order[..count],
-        begun,
-        done,
-        prepared,
-        activities,
-        machines,
-        starts,
-        ends,
-        setups,
-    )
-}
-
-// The same with work space of its own.
+// Places and writes, with work space of its own.
 pub fn write_placed(
     which: Decoder,
     s: &[u8],
@@ -129,18 +91,21 @@ pub fn write_placed(
 {
     let n = z.activities;
     let mut order = [0usize; 128];
-    let mut begun = [0u64; 128];
-    let mut done = [0u64; 128];
-    let mut prepared = [0u64; 128];
-    write_in(
-        which,
+    let mut begun_room = [0u64; 128];
+    let mut done_room = [0u64; 128];
+    let mut prepared_room = [0u64; 128];
+    let begun = &mut begun_room[..n];
+    let done = &mut done_room[..n];
+    let prepared = &mut prepared_room[..n];
+    let count = place_by(which, s, z, table, &mut order, begun, done, prepared);
+    write_board(
         s,
         z,
         table,
-        &mut order,
-        &mut begun[..n],
-        &mut done[..n],
-        &mut prepared[..n],
+        &order[..count],
+        begun,
+        done,
+        prepared,
         activities,
         machines,
         starts,

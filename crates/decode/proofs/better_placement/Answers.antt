@@ -1,16 +1,16 @@
--- `decode::better_placement` meets its contract: both sheets are left in cells of its own.
-use mathlib.Core.Path.{sym}
-use Rattle.decode.proofs.EndLaws.{zeros_long, zeros-roomy}
+-- `decode::better_placement` meets its contract: each decoder leaves its sheet, and the better one is copied. A sheet has no more rows than the order has cells.
+use mathlib.Core.Path.{ap}
+use native.Mathlib.Omega.{arith}
+use lib.ListN.{length}
+use Rattle.words.specs.Words.{words}
+use Rattle.plan.specs.Input.{problem_of, genes_of}
+use Rattle.in_order.proofs.Theorem.{well_placed}
+use Rattle.active.proofs.Theorem.{active-placed}
+use Rattle.decode.proofs.EndLaws.{few_rows}
 use Rattle.decode.proofs.better_placement.Goals as goal
 
-pub slice_bounds-better_in-end-3 : goal.slice_bounds-better_in-end-3
-slice_bounds-better_in-end-3 c = sym (zeros_long c.args.z.activities c.requires.placed.1.activities.1)
+pub put_rows-requires : goal.put_rows-requires
+put_rows-requires c = let h = few_rows (active-placed (problem_of (words c.args.s.now) c.args.z) (genes_of (words c.args.s.now) c.args.z) c.requires.placed.1).sound in omega (arith, h, ap length c.active_sheet-tight.ensures.order.listed, c.requires.weighed.1.ordered)
 
-pub slice_bounds-better_in-end-4 : goal.slice_bounds-better_in-end-4
-slice_bounds-better_in-end-4 c = sym (zeros_long c.args.z.activities c.requires.placed.1.activities.1)
-
-pub slice_bounds-better_in-end-5 : goal.slice_bounds-better_in-end-5
-slice_bounds-better_in-end-5 c = sym (zeros_long c.args.z.activities c.requires.placed.1.activities.1)
-
-pub better_in-requires : goal.better_in-requires
-better_in-requires c = record { placed = c.requires.placed; weighed = c.requires.weighed; activities_in_bounds = (c.requires.placed.1.activities.1, zeros-roomy c.args.z.activities c.requires.placed.1.activities.1) }
+pub put_rows-requires-2 : goal.put_rows-requires-2
+put_rows-requires-2 c = let h = few_rows (well_placed (problem_of (words c.args.s.now) c.args.z) (genes_of (words c.args.s.now) c.args.z) c.requires.placed.1).sound in omega (arith, h, ap length c.in_order_sheet-usual.ensures.order.listed, c.requires.weighed.1.ordered)
