@@ -1,13 +1,13 @@
 -- What is kept: cells that are written leave the others as they are, and a seat that is kept is still the activity's seat after another was
 -- placed, on another machine and of another task.
-use Rattle.std.specs.Prelude.{None, Option, Some}
+use Rattle.std.specs.Prelude.{None, Option, Some, is_some}
 use Prim.Native.Nat.{ℕ, zero, suc, ◌+◌, ◌-◌, ◌≤◌, ◌<◌}
 use mathlib.Core.Path.{◌≡◌, refl, sym, ap, ◌∙◌, subst}
 use mathlib.Core.Bool.{Bool, true, false, cond, not, ◌||◌}
 use mathlib.Core.List.{List, [], ◌∷◌}
 use native.Mathlib.Omega.{arith}
 use native.Mathlib.Numerals.{add-one}
-use borrow.Author.Tests.{eqb-true, eqb-false, ltb-true, lt-ltb, eq-eqb, ne_eqb}
+use borrow.Author.Tests.{eqb-true, eqb-false, ltb-true, eq-eqb, ne_eqb}
 use lib.Dec.{eqb, ltb}
 use lib.ListN.{length, get_or, set, replicate, length-set, get_or-replicate}
 use lib.Seq.{get_or-set_same, get_or-set_other}
@@ -24,16 +24,25 @@ use Rattle.genes.proofs.TaskLaws.{task_within, same_task}
 use Rattle.board.specs.Board.{last_placed, seat_from}
 use Rattle.board.specs.declared.Seat.{Seat}
 use Rattle.active.specs.Active.{settled_in, any_unsettled, stops_at, seat_now}
-use Rattle.active.specs.Kept.{machine_code, stops_here, Manned, next_in, last_in, held_in, seat_in, with_seat, forgotten, Holds, Kept, Told, Fresh}
+use Rattle.active.specs.Kept.{stops_here, Manned, next_in, last_in, held_in, seat_in, with_seat, forgotten, Holds, Kept, Told, Fresh}
 
 -- ---- machines by activity
 
-assigned_is : (o : Option ℕ) (x : ℕ) → x ≡ machine_code o → ((m : ℕ) → o ≡ Some m → m < 16) → ltb x 16 ≡ is_assigned o
-assigned_is None x e h = rw e
-assigned_is (Some m) x e h = rw (e, lt-ltb m 16 (h m refl))
+assigned_is : (o : Option ℕ) → is_some o ≡ is_assigned o
+assigned_is None = refl
+assigned_is (Some m) = refl
 
-pub stops_is : {g : Genes} {n : ℕ} {on : List ℕ} → Manned g n on → (settled : List ℕ) (a : ℕ) → a < n → stops_here on settled a ≡ stops_at g settled a
-stops_is {g} {n} {on} w settled a h = rw (assigned_is (g.assigned a) (get_or on a 0) (w.coded a h) (w.known a))
+pub stops_is : {g : Genes} {n : ℕ} {on : List (Option ℕ)} → Manned g n on → (settled : List ℕ) (a : ℕ) → a < n → stops_here on settled a ≡ stops_at g settled a
+stops_is {g} {n} {on} w settled a h = rw (w.given a h, assigned_is (g.assigned a))
+
+pub manned_more : {g : Genes} {k : ℕ} {x : Option ℕ} {on : List (Option ℕ)} → Manned g k on → k < 128 → x ≡ g.assigned k → Manned g (k + 1) (set on k x)
+manned_more {g} {k} {x} {on} w h e =
+    record {
+      sized = length-set on k x ∙ w.sized;
+      given = λ a i.
+          either a k (λ q. subst (λ (b : ℕ). get_or (set on k x) b None ≡ g.assigned b) (sym q) (get_or-set_same on k x None (omega (arith, h, w.sized)) ∙ e))
+          (λ ne. get_or-set_other on k a x None ne ∙ w.given a (omega arith));
+    }
 
 -- ---- flags that are put up
 

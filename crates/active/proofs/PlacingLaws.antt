@@ -68,7 +68,8 @@ pub record Placing (p : Problem) (g : Genes) (ranks order₀ order cells : List 
   pub keeping : Kept p g cells b.ends b.lines b.steps b.settled
   pub rest : place_all p g ranks (p.n - count) b ≡ place_all p g ranks p.n (empty_board p.n)
 
-pub place_begin : (p : Problem) (g : Genes) {ranks on order kept : List ℕ} {b : Board} → Begun p g ranks on order kept b → Placing p g ranks order order kept b 0
+pub place_begin : (p : Problem) (g : Genes) {ranks : List ℕ} {on : List (Option ℕ)} {order kept : List ℕ} {b : Board}
+    → Begun p g ranks on order kept b → Placing p g ranks order order kept b 0
 place_begin p g {ranks} {on} {order} {kept} {b} u =
     let e : p.n - 0 ≡ p.n = omega arith in
     record {
@@ -84,7 +85,7 @@ place_begin p g {ranks} {on} {order} {kept} {b} u =
 
 module _ {p : Problem} {g : Genes} (ok : Accepted p g) {ranks order₀ order kept : List ℕ} {b : Board} {count : ℕ} (w : Placing p g ranks order₀ order kept b count) where
   -- What a choice asks.
-  pub place_asks : {on : List ℕ} → length ranks ≡ 128 → Manned g p.n on → Chosen p g ranks on b.ends b.lines b.steps b.settled kept
+  pub place_asks : {on : List (Option ℕ)} → length ranks ≡ 128 → Manned g p.n on → Chosen p g ranks on b.ends b.lines b.steps b.settled kept
   place_asks h m =
       record {
         ranked = h;

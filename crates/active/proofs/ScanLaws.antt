@@ -1,4 +1,5 @@
 -- The two loops of a scan, and a task scanned: what is left to scan, upon what was scanned, gives what the whole does.
+use Rattle.std.specs.Prelude.{Option}
 use Prim.Native.Nat.{ℕ, zero, suc, ◌+◌, ◌-◌, ◌≤◌, ◌<◌}
 use mathlib.Core.Path.{◌≡◌, refl, sym, ap, ap₂, ◌∙◌, subst}
 use mathlib.Core.Bool.{Bool, true, false}
@@ -57,7 +58,7 @@ skip p g (suc k) left x settled found h =
 -- ---- the loop over a task's steps
 
 -- Steps from one on are passed, each settled already or for want of a machine: what is left to scan is scanned from there.
-pub record Passing (on settled₀ settled : List ℕ) (from last a : ℕ) : Type 0 where
+pub record Passing (on : List (Option ℕ)) (settled₀ settled : List ℕ) (from last a : ℕ) : Type 0 where
   pub above : from ≤ a
   pub below : a ≤ last
   pub sized : length settled ≡ length settled₀
@@ -66,11 +67,11 @@ pub record Passing (on settled₀ settled : List ℕ) (from last a : ℕ) : Type
   pub rest : (p : Problem) (g : Genes) (n : ℕ) → Manned g n on → last ≤ n → (found : List ℕ)
       → scan_from p g (last - a) a (scan_with settled found) ≡ scan_from p g (last - from) from (scan_with settled₀ found)
 
-pub pass_begin : (on settled : List ℕ) (from last : ℕ) → from ≤ last → Passing on settled settled from last from
+pub pass_begin : (on : List (Option ℕ)) (settled : List ℕ) (from last : ℕ) → from ≤ last → Passing on settled settled from last from
 pass_begin on settled from last h =
     record { above = omega arith; below = h; sized = refl; ones = λ i l u. absurd (omega arith); grown = λ i e. e; rest = λ p g n w l found. refl }
 
-module _ {on settled₀ settled : List ℕ} {from last a : ℕ} (w : Passing on settled₀ settled from last a) where
+module _ {on : List (Option ℕ)} {settled₀ settled : List ℕ} {from last a : ℕ} (w : Passing on settled₀ settled from last a) where
   pub pass_again : a < last → last ≤ length settled₀ → stops_here on settled a ≡ false → Passing on settled₀ (set settled a 1) from last (a + 1)
   pass_again h room e =
       let same : get_or (set settled a 1) a 0 ≡ 1 = get_or-set_same settled a 1 0 (omega (arith, w.sized)) in
@@ -92,7 +93,7 @@ module _ {on settled₀ settled : List ℕ} {from last a : ℕ} (w : Passing on 
       }
 
 -- Nothing else changes while steps are passed.
-pub record Stepping (on settled₀ kept₀ offered₀ : List ℕ) (found₀ : ℕ) (settled kept offered : List ℕ) (found from last a : ℕ) : Type 0 where
+pub record Stepping (on : List (Option ℕ)) (settled₀ kept₀ offered₀ : List ℕ) (found₀ : ℕ) (settled kept offered : List ℕ) (found from last a : ℕ) : Type 0 where
   pub passing : Passing on settled₀ settled from last a
   pub keeps : kept ≡ kept₀
   pub offers : offered ≡ offered₀
@@ -113,7 +114,7 @@ record ScannedTask (p : Problem) (g : Genes) (t : ℕ) (settled₀ kept₀ settl
   scanned : (found : List ℕ)
       → scan_from p g (p.steps t) (p.first t) (scan_with settled₀ found) ≡ scan_with settled (found ++ found_if r (held_in kept t))
 
-module _ {p : Problem} {g : Genes} (ok : Accepted p g) {on ends lines steps : List ℕ} (manned : Manned g p.n on) (t : ℕ) (ht : t < p.tasks)
+module _ {p : Problem} {g : Genes} (ok : Accepted p g) {on : List (Option ℕ)} {ends lines steps : List ℕ} (manned : Manned g p.n on) (t : ℕ) (ht : t < p.tasks)
     {settled₀ kept₀ : List ℕ} (k : Kept p g kept₀ ends lines steps settled₀)
     {settled : List ℕ} {a : ℕ} (w : Passing on settled₀ settled (next_in kept₀ t) (last_in kept₀ t) a) where
   abbrev kept₁ : List ℕ
@@ -381,7 +382,7 @@ module _ {p : Problem} {g : Genes} (ok : Accepted p g) {settled₀ offered₀ se
 
 -- A task is left: at its end, at a step that waits, or at a candidate.
 module _ {p : Problem} {g : Genes} (ok : Accepted p g) {settled₀ offered₀ settled₁ kept₁ ends lines steps offered₁ : List ℕ} {found₁ t : ℕ}
-    (o : Scanning p g settled₀ offered₀ settled₁ kept₁ ends lines steps offered₁ found₁ t) (ht : t < p.tasks) {on : List ℕ} (manned : Manned g p.n on)
+    (o : Scanning p g settled₀ offered₀ settled₁ kept₁ ends lines steps offered₁ found₁ t) (ht : t < p.tasks) {on : List (Option ℕ)} (manned : Manned g p.n on)
     {settled kept offered : List ℕ} {found a : ℕ} (w : Stepping on settled₁ kept₁ offered₁ found₁ settled kept offered found (next_in kept₁ t) (last_in kept₁ t) a) where
   skipped : ScannedTask p g t settled₁ kept₁ settled (set kept₁ t a) ends lines steps false → Scanning p g settled₀ offered₀ settled (set kept t a) ends lines steps offered found (t + 1)
   skipped s = rw (w.keeps, w.offers, w.finds) (scan_skip ok o ht s refl)

@@ -1,5 +1,5 @@
 -- What the active decoder's functions ask of their slices.
-use Rattle.std.specs.Prelude.{ℕ, ◌≤◌, ◌<◌, ◌^◌, ◌≡◌, List, length, get_or}
+use Rattle.std.specs.Prelude.{ℕ, ◌≤◌, ◌<◌, ◌^◌, ◌≡◌, List, Option, length, get_or}
 use Rattle.plan.specs.Problem.{Problem, Genes}
 use Rattle.board.specs.Board.{Board, empty_board}
 use Rattle.board.specs.Sound.{Sized}
@@ -13,7 +13,7 @@ pub record Timely (n : ℕ) (ends lines steps : List ℕ) : Type 0 where
   pub stepped : length steps ≡ 32
 
 -- What a choice looks at: the ranks, machines, times and links of a sound board, its flags, and what is kept.
-pub record Chosen (p : Problem) (g : Genes) (ranks on ends lines steps settled kept : List ℕ) : Type 0 where
+pub record Chosen (p : Problem) (g : Genes) (ranks : List ℕ) (on : List (Option ℕ)) (ends lines steps settled kept : List ℕ) : Type 0 where
   pub ranked : length ranks ≡ 128
   pub manned : Manned g p.n on
   pub timely : Timely p.n ends lines steps
@@ -21,7 +21,7 @@ pub record Chosen (p : Problem) (g : Genes) (ranks on ends lines steps settled k
   pub keeping : Kept p g kept ends lines steps settled
 
 -- A board on which nothing stands, room for n rows, a rank and a machine for each, and nothing kept.
-pub record Begun (p : Problem) (g : Genes) (ranks on order kept : List ℕ) (b : Board) : Type 0 where
+pub record Begun (p : Problem) (g : Genes) (ranks : List ℕ) (on : List (Option ℕ)) (order kept : List ℕ) (b : Board) : Type 0 where
   pub ranked : length ranks ≡ 128
   pub manned : Manned g p.n on
   pub roomy : p.n ≤ length order
@@ -29,7 +29,7 @@ pub record Begun (p : Problem) (g : Genes) (ranks on order kept : List ℕ) (b :
   pub empty : b ≡ empty_board p.n
 
 -- Cells for a board and for its rows, a rank and a machine for each, and nothing kept.
-pub record Started (p : Problem) (g : Genes) (ranks on order kept : List ℕ) (b : Board) : Type 0 where
+pub record Started (p : Problem) (g : Genes) (ranks : List ℕ) (on : List (Option ℕ)) (order kept : List ℕ) (b : Board) : Type 0 where
   pub ranked : length ranks ≡ 128
   pub manned : Manned g p.n on
   pub roomy : p.n ≤ length order

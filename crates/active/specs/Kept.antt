@@ -1,6 +1,6 @@
 -- What is kept from one placing to the next, in rows of 32 cells, one for each task: how far it is passed, where it ends, and the seat of
 -- its next activity. What is written here decides nothing: it is what the rules would work out again.
-use Rattle.std.specs.Prelude.{ℕ, zero, suc, ◌+◌, ◌≤◌, ◌<◌, ◌≡◌, Bool, false, cond, not, ◌&&◌, List, [], ◌∷◌, eqb, ltb, length, get_or, set, Some, None, Option}
+use Rattle.std.specs.Prelude.{ℕ, zero, suc, ◌+◌, ◌≤◌, ◌<◌, ◌≡◌, Bool, false, cond, not, ◌&&◌, List, [], ◌∷◌, eqb, length, get_or, slice_index_or, set, None, Option, is_some}
 use Rattle.plan.specs.Problem.{Problem, Genes}
 use Rattle.board.specs.declared.Seat.{Seat}
 use Rattle.graph.specs.Counting.{Below}
@@ -8,19 +8,13 @@ use Rattle.active.specs.Active.{settled_in, any_unsettled, scan_of, seat_now}
 
 -- ---- machines by activity
 
--- 16 where there is none
-abbrev pub machine_code : Option ℕ → ℕ
-machine_code None = 16
-machine_code (Some m) = m
-
-pub record Manned (g : Genes) (n : ℕ) (on : List ℕ) : Type 0 where
+pub record Manned (g : Genes) (n : ℕ) (on : List (Option ℕ)) : Type 0 where
   pub sized : length on ≡ 128
-  pub coded : (a : ℕ) → a < n → get_or on a 0 ≡ machine_code (g.assigned a)
-  pub known : (a m : ℕ) → g.assigned a ≡ Some m → m < 16
+  pub given : (a : ℕ) → a < n → slice_index_or on a None ≡ g.assigned a
 
 -- a task stops at an activity that is not settled and has a machine
-abbrev pub stops_here : (on settled : List ℕ) → ℕ → Bool
-stops_here on settled a = not (settled_in settled a) && ltb (get_or on a 0) 16
+abbrev pub stops_here : (on : List (Option ℕ)) (settled : List ℕ) → ℕ → Bool
+stops_here on settled a = not (settled_in settled a) && is_some (slice_index_or on a None)
 
 -- ---- the rows
 

@@ -73,7 +73,7 @@ pub fn choose(
     z: Layout,
     table: &[usize],
     ranks: &[usize],
-    on: &[usize],
+    on: &[Option<usize>],
     ends: &[u64],
     lines: &[usize],
     steps: &[usize],

@@ -23,7 +23,7 @@ fn place_chosen(
     z: Layout,
     table: &[usize],
     ranks: &[usize],
-    on: &[usize],
+    on: &[Option<usize>],
     order: &mut [usize],
     starts: &mut [u64],
     ends: &mut [u64],
@@ -59,7 +59,7 @@ fn place_all(
     z: Layout,
     table: &[usize],
     ranks: &[usize],
-    on: &[usize],
+    on: &[Option<usize>],
     order: &mut [usize],
     starts: &mut [u64],
     ends: &mut [u64],
@@ -113,7 +113,7 @@ pub fn place_active(
     let mut lines = [0usize; 16];
     let mut steps = [0usize; 32];
     let mut settled = [0usize; 128];
-    let mut on = [0usize; 128];
+    let mut on = [None; 128];
     fill_on(s, z, &mut on);
     let mut kept = [0usize; 224];
     begin(s, z, &mut kept);

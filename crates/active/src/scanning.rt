@@ -58,11 +58,11 @@ fn waits(
 }
 
 // Whether a task stops at a step.
-fn stops(on: &[usize], settled: &[usize], a: usize) -> bool
+fn stops(on: &[Option<usize>], settled: &[usize], a: usize) -> bool
     requires { (a < length on.now) × (a < length settled.now) }
     ensures { result ≡ stops_here on.now settled.now a }
 {
-    settled[a] != 1 && on[a] < 16
+    settled[a] != 1 && on[a].is_some()
 }
 
 // Scans the tasks, each from its next step until it stops: writes those that have a candidate, and answers how many they are.
@@ -70,7 +70,7 @@ pub fn scan(
     s: &[u8],
     z: Layout,
     table: &[usize],
-    on: &[usize],
+    on: &[Option<usize>],
     ends: &[u64],
     lines: &[usize],
     steps: &[usize],

@@ -6,7 +6,7 @@ ghost use Rattle.plan.specs.Found.{Placed};
 ghost use Rattle.plan.specs.Accepted.{Accepted};
 ghost use Rattle.tables.specs.Tabled.{Tabled};
 ghost use Rattle.active.specs.Active.{seat_now};
-ghost use Rattle.active.specs.Kept.{machine_code, activity_row, seat_in, with_seat, keep_seat, forgotten, Manned, Fresh};
+ghost use Rattle.active.specs.Kept.{activity_row, seat_in, with_seat, keep_seat, forgotten, Manned, Fresh};
 ghost use Rattle.active.specs.Asked.{Timely};
 
 use board::Seat;
@@ -25,24 +25,13 @@ const FINISH_ROW: usize = 160;
 
 const SETUP_ROW: usize = 192;
 
-// The machine of an activity; 16 where it has none.
-fn machine_code(s: &[u8], z: Layout, a: usize) -> usize
-    requires { Placed z × (a < 2 ^ 32) }
-    ensures { result ≡ machine_code ((genes_of (words s.now) z).assigned a) }
-{
-    let Some(m) = plan::assigned(s, z, a) else {
-        return 16;
-    };
-    m
-}
-
-// The machine of each activity.
-pub fn fill_on(s: &[u8], z: Layout, on: &mut [usize])
+// The machine of each activity, or none.
+pub fn fill_on(s: &[u8], z: Layout, on: &mut [Option<usize>])
     requires { Placed z × Accepted (problem_of (words s.now) z) (genes_of (words s.now) z) × (length on.old ≡ 128) }
     ensures { Manned (genes_of (words s.now) z) z.activities on.new }
 {
     for a in 0..z.activities {
-        on[a] = machine_code(s, z, a);
+        on[a] = plan::assigned(s, z, a);
     }
 }
 
