@@ -15,41 +15,7 @@ use crate::found::search_and_tell;
 use plan::Layout;
 use reader::{Reason, Refusal};
 
-// Outcome 12 where the lines contradict, else 13 or 14. The first seven buffers are work space, a cell for each activity.
-fn improve_in(
-    s: &[u8],
-    z: Layout,
-    table: &[usize],
-    cells: &mut [usize],
-    lens: [usize; 16],
-    before: &mut [usize],
-    after: &mut [usize],
-    on: &mut [usize],
-    places: &mut [usize],
-    order: &mut [usize],
-    starts: &mut [u64],
-    ends: &mut [u64],
-    tasks: &mut [usize],
-    machines: &mut [usize],
-) -> Ending
-    requires taken { Taken s.now z table.now × (length cells.old ≡ 2048) × WellFormed z.activities z.machines (lines_in cells.old lens) }
-    requires rooms { Rooms z.activities before.old after.old on.old places.old order.old starts.old ends.old × (128 ≤ length tasks.old) × (128 ≤ length machines.old) }
-    ensures answer { result ≡ told (twelve_if (contradicts (problem_of (words s.now) z) (lines_in cells.old lens)) (problem_of (words s.now) z) (lines_in cells.old lens)) }
-    ensures tasks { tasks.new ≡ tasks_over (twelve_if (contradicts (problem_of (words s.now) z) (lines_in cells.old lens)) (problem_of (words s.now) z) (lines_in cells.old lens)) tasks.old }
-    ensures machines { machines.new ≡ machines_over (twelve_if (contradicts (problem_of (words s.now) z) (lines_in cells.old lens)) (problem_of (words s.now) z) (lines_in cells.old lens)) machines.old }
-{
-    let ways = plan::transports(s, z);
-    if !timing::time_sequences(
-        s, z, table, ways, cells, lens, before, after, on, places, order, starts, ends,
-    ) {
-        return Ending::Contradictory;
-    }
-    search_and_tell(
-        s, z, table, ways, cells, lens, order, starts, ends, tasks, machines,
-    )
-}
-
-// The same with work space of its own.
+// Outcome 12 where the lines contradict, else 13 or 14.
 fn improve_lines(
     s: &[u8],
     z: Layout,
@@ -66,28 +32,28 @@ fn improve_lines(
     ensures machines { machines.new ≡ machines_over (twelve_if (contradicts (problem_of (words s.now) z) (lines_in cells.old lens)) (problem_of (words s.now) z) (lines_in cells.old lens)) machines.old }
 {
     let n = z.activities;
-    let mut before = [0usize; 128];
-    let mut after = [0usize; 128];
-    let mut on = [0usize; 128];
-    let mut places = [0usize; 128];
-    let mut order = [0usize; 128];
-    let mut starts = [0u64; 128];
-    let mut ends = [0u64; 128];
-    improve_in(
-        s,
-        z,
-        table,
-        cells,
-        lens,
-        &mut before[..n],
-        &mut after[..n],
-        &mut on[..n],
-        &mut places[..n],
-        &mut order[..n],
-        &mut starts[..n],
-        &mut ends[..n],
-        tasks,
-        machines,
+    let mut before_room = [0usize; 128];
+    let mut after_room = [0usize; 128];
+    let mut on_room = [0usize; 128];
+    let mut places_room = [0usize; 128];
+    let mut order_room = [0usize; 128];
+    let mut start_room = [0u64; 128];
+    let mut end_room = [0u64; 128];
+    let before = &mut before_room[..n];
+    let after = &mut after_room[..n];
+    let on = &mut on_room[..n];
+    let places = &mut places_room[..n];
+    let order = &mut order_room[..n];
+    let starts = &mut start_room[..n];
+    let ends = &mut end_room[..n];
+    let ways = plan::transports(s, z);
+    if !timing::time_sequences(
+        s, z, table, ways, cells, lens, before, after, on, places, order, starts, ends,
+    ) {
+        return Ending::Contradictory;
+    }
+    search_and_tell(
+        s, z, table, ways, cells, lens, order, starts, ends, tasks, machines,
     )
 }
 

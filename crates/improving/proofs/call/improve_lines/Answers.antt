@@ -1,27 +1,19 @@
-use mathlib.Core.Path.{sym}
-use Rattle.calls.proofs.PrefixLaws.{lent}
+use mathlib.Core.Path.{ap, ◌∙◌}
+use Rattle.words.specs.Words.{words}
+use Rattle.plan.specs.Input.{problem_of}
+use Rattle.search.specs.Search.{Improved}
+use Rattle.improving.specs.Improving.{tasks_over, machines_over}
+use Rattle.improving.proofs.CallLaws.{not_twelve}
+use Rattle.lines.specs.Lines.{lines_in}
+use Rattle.timing.specs.Timing.{contradicts}
+use Rattle.calls.proofs.SheetLaws.{not_not}
 use Rattle.improving.proofs.call.improve_lines.Goals as goal
 
-pub slice_bounds-improve_in-end : goal.slice_bounds-improve_in-end
-slice_bounds-improve_in-end c = sym (lent c.args.z.activities c.requires.taken.0.accepted.activities.1)
+pub search_and_tell-requires-clause-ready : goal.search_and_tell-requires-clause-ready
+search_and_tell-requires-clause-ready c = (record { placed = c.requires.taken.0.placed; accepted = c.requires.taken.0.accepted; weighed = c.requires.taken.0.weighed; tabled = c.requires.taken.0.tabled; transports = c.transports-ways.ensures }, record { roomy = c.requires.taken.1; sixteen = c.well_formed.1.1.1.1.0.1.0.1; well = c.requires.taken.2 }, c.time_sequences.ensures.timed c.if-not-time_sequences.false)
 
-pub slice_bounds-improve_in-end-2 : goal.slice_bounds-improve_in-end-2
-slice_bounds-improve_in-end-2 c = sym (lent c.args.z.activities c.requires.taken.0.accepted.activities.1)
+pub returns-clause-tasks : goal.returns-clause-tasks
+returns-clause-tasks c = c.search_and_tell.ensures.tasks ∙ ap (λ (i : Improved). tasks_over i c.args.tasks.now) (not_twelve (problem_of (words c.args.s.now) c.args.z) (lines_in c.args.cells.now c.args.lens) (contradicts (problem_of (words c.args.s.now) c.args.z) (lines_in c.args.cells.now c.args.lens)) (not_not (contradicts (problem_of (words c.args.s.now) c.args.z) (lines_in c.args.cells.now c.args.lens)) c.time_sequences.ensures.answer c.if-not-time_sequences.false))
 
-pub slice_bounds-improve_in-end-3 : goal.slice_bounds-improve_in-end-3
-slice_bounds-improve_in-end-3 c = sym (lent c.args.z.activities c.requires.taken.0.accepted.activities.1)
-
-pub slice_bounds-improve_in-end-4 : goal.slice_bounds-improve_in-end-4
-slice_bounds-improve_in-end-4 c = sym (lent c.args.z.activities c.requires.taken.0.accepted.activities.1)
-
-pub slice_bounds-improve_in-end-5 : goal.slice_bounds-improve_in-end-5
-slice_bounds-improve_in-end-5 c = sym (lent c.args.z.activities c.requires.taken.0.accepted.activities.1)
-
-pub slice_bounds-improve_in-end-6 : goal.slice_bounds-improve_in-end-6
-slice_bounds-improve_in-end-6 c = sym (lent c.args.z.activities c.requires.taken.0.accepted.activities.1)
-
-pub slice_bounds-improve_in-end-7 : goal.slice_bounds-improve_in-end-7
-slice_bounds-improve_in-end-7 c = sym (lent c.args.z.activities c.requires.taken.0.accepted.activities.1)
-
-pub improve_in-requires : goal.improve_in-requires
-improve_in-requires c = record { taken = c.requires.taken; rooms = (record { length_before = lent c.args.z.activities c.requires.taken.0.accepted.activities.1; length-after = lent c.args.z.activities c.requires.taken.0.accepted.activities.1; length-machines = lent c.args.z.activities c.requires.taken.0.accepted.activities.1; length-places = lent c.args.z.activities c.requires.taken.0.accepted.activities.1; length_order = lent c.args.z.activities c.requires.taken.0.accepted.activities.1; length_starts = lent c.args.z.activities c.requires.taken.0.accepted.activities.1; length-ends = lent c.args.z.activities c.requires.taken.0.accepted.activities.1 }, c.requires.in_bounds.0, c.requires.in_bounds.1) }
+pub returns-clause-machines : goal.returns-clause-machines
+returns-clause-machines c = c.search_and_tell.ensures.machines ∙ ap (λ (i : Improved). machines_over i c.args.machines.now) (not_twelve (problem_of (words c.args.s.now) c.args.z) (lines_in c.args.cells.now c.args.lens) (contradicts (problem_of (words c.args.s.now) c.args.z) (lines_in c.args.cells.now c.args.lens)) (not_not (contradicts (problem_of (words c.args.s.now) c.args.z) (lines_in c.args.cells.now c.args.lens)) c.time_sequences.ensures.answer c.if-not-time_sequences.false))
