@@ -14,7 +14,7 @@ pub fn copy_over(list: &[usize], to: &mut [usize])
 }
 
 // Writes what each activity of an order has over the first cells of a buffer.
-fn gather<T: Copy>(order: &[usize], values: &[T], to: &mut [T])
+pub fn gather<T: Copy>(order: &[usize], values: &[T], to: &mut [T])
     requires { (length order.now ≤ length to.old) × Below (length values.now) order.now }
     ensures { (d : T) → to.new ≡ map (λ a. get_or values.now a d) order.now ++ drop (length order.now) to.old }
 {
