@@ -76,8 +76,8 @@ fn active_sheet(
 }
 
 // Places what the genes give by the decoder whose sheet is better, in order unless active is strictly less: writes the activities placed, in
-// placing order, and the start, the end and the setup of each by its number, and answers how many are placed. Both
-// orders are held apart, so that no cell after the last row is touched, and so are the active times, which are copied where they are used.
+// placing order, and the start, the end and the setup of each by its number, and answers how many are placed. Both orders are held apart, so
+// that no cell after the last row is touched, and so are the active times, which are copied where they are used.
 pub fn better_placement(
     s: &[u8],
     z: Layout,
