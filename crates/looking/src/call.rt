@@ -13,50 +13,7 @@ use crate::sight::see;
 use plan::Layout;
 use reader::{Reason, Refusal};
 
-// Number 8 where the lines contradict, else what a step sees. The ten buffers before the results are work space.
-fn look_in(
-    s: &[u8],
-    z: Layout,
-    table: &[usize],
-    cells: &[usize],
-    lens: [usize; 16],
-    before: &mut [usize],
-    after: &mut [usize],
-    on: &mut [usize],
-    places: &mut [usize],
-    order: &mut [usize],
-    starts: &mut [u64],
-    ends: &mut [u64],
-    trail: &mut [usize],
-    tail: &mut [u64],
-    heads: &mut [u64],
-    path: &mut [usize],
-    moves: &mut [usize],
-    kept: &mut [usize],
-    ranks: &mut [u64],
-) -> Result<Seen, Refusal>
-    requires taken { Taken s.now z table.now × (length cells.now ≡ 2048) × WellFormed z.activities z.machines (lines_in cells.now lens) }
-    requires rooms { Rooms z.activities before.old after.old on.old places.old order.old starts.old ends.old × (length trail.old ≡ z.activities) × (length tail.old ≡ z.activities) × (128 ≤ length heads.old) }
-    requires in_bounds { (128 ≤ length path.old) × (1536 ≤ length moves.old) × (128 ≤ length kept.old) × (128 ≤ length ranks.old) }
-    ensures answer { result ≡ answer_of (eight_if (contradicts (problem_of (words s.now) z) (lines_in cells.now lens)) (problem_of (words s.now) z) (lines_in cells.now lens)) }
-    ensures left { Leaves (eight_if (contradicts (problem_of (words s.now) z) (lines_in cells.now lens)) (problem_of (words s.now) z) (lines_in cells.now lens)) path.old moves.old kept.old ranks.old path.new moves.new kept.new ranks.new }
-{
-    let ways = plan::transports(s, z);
-    if !timing::time_sequences(
-        s, z, table, ways, cells, lens, before, after, on, places, order, starts, ends,
-    ) {
-        return Err(Refusal {
-            reason: Reason::Contradiction,
-            place: 0,
-        });
-    }
-    Ok(see(
-        s, z, table, ways, cells, lens, order, starts, ends, before, after, on, places, trail,
-        tail, heads, path, moves, kept, ranks,
-    ))
-}
-
-// The same with work space of its own.
+// Number 8 where the lines contradict, else what a step sees.
 fn look_lines(
     s: &[u8],
     z: Layout,
@@ -73,38 +30,29 @@ fn look_lines(
     ensures answer { result ≡ answer_of (eight_if (contradicts (problem_of (words s.now) z) (lines_in cells.now lens)) (problem_of (words s.now) z) (lines_in cells.now lens)) }
     ensures left { Leaves (eight_if (contradicts (problem_of (words s.now) z) (lines_in cells.now lens)) (problem_of (words s.now) z) (lines_in cells.now lens)) path.old moves.old kept.old ranks.old path.new moves.new kept.new ranks.new }
 {
-    let n = z.activities;
-    let mut before = [0usize; 128];
-    let mut after = [0usize; 128];
-    let mut on = [0usize; 128];
-    let mut places = [0usize; 128];
-    let mut order = [0usize; 128];
-    let mut starts = [0u64; 128];
-    let mut ends = [0u64; 128];
-    let mut trail = [0usize; 128];
-    let mut tail = [0u64; 128];
-    let mut heads = [0u64; 128];
-    look_in(
-        s,
-        z,
-        table,
-        cells,
-        lens,
-        &mut before[..n],
-        &mut after[..n],
-        &mut on[..n],
-        &mut places[..n],
-        &mut order[..n],
-        &mut starts[..n],
-        &mut ends[..n],
-        &mut trail[..n],
-        &mut tail[..n],
-        &mut heads,
-        path,
-        moves,
-        kept,
-        ranks,
-    )
+    let before = &mut [0usize; 128][..z.activities];
+    let after = &mut [0usize; 128][..z.activities];
+    let on = &mut [0usize; 128][..z.activities];
+    let places = &mut [0usize; 128][..z.activities];
+    let order = &mut [0usize; 128][..z.activities];
+    let starts = &mut [0u64; 128][..z.activities];
+    let ends = &mut [0u64; 128][..z.activities];
+    let trail = &mut [0usize; 128][..z.activities];
+    let tail = &mut [0u64; 128][..z.activities];
+    let heads = &mut [0u64; 128];
+    let ways = plan::transports(s, z);
+    if !timing::time_sequences(
+        s, z, table, ways, cells, lens, before, after, on, places, order, starts, ends,
+    ) {
+        return Err(Refusal {
+            reason: Reason::Contradiction,
+            place: 0,
+        });
+    }
+    Ok(see(
+        s, z, table, ways, cells, lens, order, starts, ends, before, after, on, places, trail,
+        tail, heads, path, moves, kept, ranks,
+    ))
 }
 
 // Number 7 where the lines do not hold each activity once on the machines that there are.

@@ -1,35 +1,20 @@
 -- `looking::call::look_lines` meets its contract.
-use mathlib.Core.Path.{sym}
-use native.Mathlib.Omega.{arith}
-use Rattle.calls.proofs.PrefixLaws.{lent}
+use mathlib.Core.Path.{ap, ◌∙◌}
+use Rattle.words.specs.Words.{words}
+use Rattle.plan.specs.Input.{problem_of}
+use Rattle.lines.specs.Lines.{lines_in}
+use Rattle.timing.specs.Timing.{contradicts}
+use Rattle.calls.proofs.SheetLaws.{not_not, not_false}
+use Rattle.looking.specs.Looking.{answer_of}
+use Rattle.looking.proofs.CallLaws.{eight, not_eight, leaves_as, refused}
 use Rattle.looking.proofs.call.look_lines.Goals as goal
 
-pub slice_bounds-look_in-end : goal.slice_bounds-look_in-end
-slice_bounds-look_in-end c = sym (lent c.args.z.activities c.requires.taken.0.accepted.activities.1)
+pub returns-then-not-time_sequences-clause-left : goal.returns-then-not-time_sequences-clause-left
+returns-then-not-time_sequences-clause-left c = refused (eight (problem_of (words c.args.s.now) c.args.z) (lines_in c.args.cells.now c.args.lens) (contradicts (problem_of (words c.args.s.now) c.args.z) (lines_in c.args.cells.now c.args.lens)) (not_false (contradicts (problem_of (words c.args.s.now) c.args.z) (lines_in c.args.cells.now c.args.lens)) c.time_sequences.ensures.answer c.if-not-time_sequences.true))
 
-pub slice_bounds-look_in-end-2 : goal.slice_bounds-look_in-end-2
-slice_bounds-look_in-end-2 c = sym (lent c.args.z.activities c.requires.taken.0.accepted.activities.1)
+pub see-requires-clause-ready : goal.see-requires-clause-ready
+see-requires-clause-ready c = (record { placed = c.requires.taken.0.placed; accepted = c.requires.taken.0.accepted; weighed = c.requires.taken.0.weighed; tabled = c.requires.taken.0.tabled; transports = c.transports-ways.ensures }, record { roomy = c.requires.taken.1; sixteen = c.well_formed.1.1.1.1.0.1.0.1; well = c.requires.taken.2 }, c.time_sequences.ensures.timed c.if-not-time_sequences.false)
 
-pub slice_bounds-look_in-end-3 : goal.slice_bounds-look_in-end-3
-slice_bounds-look_in-end-3 c = sym (lent c.args.z.activities c.requires.taken.0.accepted.activities.1)
-
-pub slice_bounds-look_in-end-4 : goal.slice_bounds-look_in-end-4
-slice_bounds-look_in-end-4 c = sym (lent c.args.z.activities c.requires.taken.0.accepted.activities.1)
-
-pub slice_bounds-look_in-end-5 : goal.slice_bounds-look_in-end-5
-slice_bounds-look_in-end-5 c = sym (lent c.args.z.activities c.requires.taken.0.accepted.activities.1)
-
-pub slice_bounds-look_in-end-6 : goal.slice_bounds-look_in-end-6
-slice_bounds-look_in-end-6 c = sym (lent c.args.z.activities c.requires.taken.0.accepted.activities.1)
-
-pub slice_bounds-look_in-end-7 : goal.slice_bounds-look_in-end-7
-slice_bounds-look_in-end-7 c = sym (lent c.args.z.activities c.requires.taken.0.accepted.activities.1)
-
-pub slice_bounds-look_in-end-8 : goal.slice_bounds-look_in-end-8
-slice_bounds-look_in-end-8 c = sym (lent c.args.z.activities c.requires.taken.0.accepted.activities.1)
-
-pub slice_bounds-look_in-end-9 : goal.slice_bounds-look_in-end-9
-slice_bounds-look_in-end-9 c = sym (lent c.args.z.activities c.requires.taken.0.accepted.activities.1)
-
-pub look_in-requires : goal.look_in-requires
-look_in-requires c = record { taken = c.requires.taken; rooms = (record { length_before = lent c.args.z.activities c.requires.taken.0.accepted.activities.1; length-after = lent c.args.z.activities c.requires.taken.0.accepted.activities.1; length-machines = lent c.args.z.activities c.requires.taken.0.accepted.activities.1; length-places = lent c.args.z.activities c.requires.taken.0.accepted.activities.1; length_order = lent c.args.z.activities c.requires.taken.0.accepted.activities.1; length_starts = lent c.args.z.activities c.requires.taken.0.accepted.activities.1; length-ends = lent c.args.z.activities c.requires.taken.0.accepted.activities.1 }, lent c.args.z.activities c.requires.taken.0.accepted.activities.1, lent c.args.z.activities c.requires.taken.0.accepted.activities.1, omega arith); in_bounds = c.requires.in_bounds }
+pub returns : goal.returns
+returns c = let e = not_eight (problem_of (words c.args.s.now) c.args.z) (lines_in c.args.cells.now c.args.lens) (contradicts (problem_of (words c.args.s.now) c.args.z) (lines_in c.args.cells.now c.args.lens)) (not_not (contradicts (problem_of (words c.args.s.now) c.args.z) (lines_in c.args.cells.now c.args.lens)) c.time_sequences.ensures.answer c.if-not-time_sequences.false) in
+    record { answer = c.see.ensures.answer ∙ ap answer_of e; left = leaves_as e c.see.ensures.left }
