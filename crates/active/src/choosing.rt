@@ -10,7 +10,7 @@ ghost use Rattle.active.specs.Kept.{seat_in, Kept, Offered};
 ghost use Rattle.active.specs.Asked.{Chosen};
 
 use crate::scanning::scan;
-use crate::seats::seat_at;
+use crate::seats::{Machine, seat_at};
 use board::Seat;
 use plan::Layout;
 
@@ -73,7 +73,7 @@ pub fn choose(
     z: Layout,
     table: &[usize],
     ranks: &[usize],
-    on: &[Option<usize>],
+    on: &[Machine],
     ends: &[u64],
     lines: &[usize],
     steps: &[usize],

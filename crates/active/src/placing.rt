@@ -14,7 +14,7 @@ ghost use Rattle.active.specs.Asked.{Begun, Started};
 
 use crate::choosing::choose;
 use crate::scanning::put_ranks;
-use crate::seats::{begin, fill_on, forget};
+use crate::seats::{Machine, begin, fill_on, forget};
 use plan::Layout;
 
 // Places upon an empty board until a scan has no candidate, and answers how many are placed.
@@ -23,7 +23,7 @@ fn place_chosen(
     z: Layout,
     table: &[usize],
     ranks: &[usize],
-    on: &[Option<usize>],
+    on: &[Machine],
     order: &mut [usize],
     starts: &mut [u64],
     ends: &mut [u64],
@@ -59,7 +59,7 @@ fn place_all(
     z: Layout,
     table: &[usize],
     ranks: &[usize],
-    on: &[Option<usize>],
+    on: &[Machine],
     order: &mut [usize],
     starts: &mut [u64],
     ends: &mut [u64],
@@ -114,6 +114,8 @@ pub fn place_active(
     let mut steps = [0usize; 32];
     let mut settled = [0usize; 128];
     let mut on = [None; 128];
+    // As the sums in docs/CALLS.md count them.
+    prove!(size_of::<[Machine; 128]>() == 1024);
     fill_on(s, z, &mut on);
     let mut kept = [0usize; 224];
     begin(s, z, &mut kept);

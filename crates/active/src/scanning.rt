@@ -10,7 +10,7 @@ ghost use Rattle.active.specs.Active.{ranked_from, any_unsettled};
 ghost use Rattle.active.specs.Kept.{stops_here, Manned, held_in, Kept, ScannedAll};
 ghost use Rattle.active.specs.Asked.{Timely};
 
-use crate::seats::{ACTIVITY_ROW, LAST_ROW, keep_seat};
+use crate::seats::{ACTIVITY_ROW, LAST_ROW, Machine, keep_seat};
 use plan::Layout;
 
 // Gives each of the order its place as its rank.
@@ -58,7 +58,7 @@ fn waits(
 }
 
 // Whether a task stops at a step.
-fn stops(on: &[Option<usize>], settled: &[usize], a: usize) -> bool
+fn stops(on: &[Machine], settled: &[usize], a: usize) -> bool
     requires { (a < length on.now) × (a < length settled.now) }
     ensures { result ≡ stops_here on.now settled.now a }
 {
@@ -70,7 +70,7 @@ pub fn scan(
     s: &[u8],
     z: Layout,
     table: &[usize],
-    on: &[Option<usize>],
+    on: &[Machine],
     ends: &[u64],
     lines: &[usize],
     steps: &[usize],

@@ -25,13 +25,25 @@ const FINISH_ROW: usize = 160;
 
 const SETUP_ROW: usize = 192;
 
+// An activity's machine, or none, in one cell.
+pub type Machine = Option<u32>;
+
+// The machine of an activity, or none.
+fn machine_of(s: &[u8], z: Layout, a: usize) -> Machine
+    requires { Placed z × Accepted (problem_of (words s.now) z) (genes_of (words s.now) z) × (a < 2 ^ 32) }
+    ensures { result ≡ (genes_of (words s.now) z).assigned a }
+{
+    let m = plan::assigned(s, z, a)?;
+    Some(m as u32)
+}
+
 // The machine of each activity, or none.
-pub fn fill_on(s: &[u8], z: Layout, on: &mut [Option<usize>])
+pub fn fill_on(s: &[u8], z: Layout, on: &mut [Machine])
     requires { Placed z × Accepted (problem_of (words s.now) z) (genes_of (words s.now) z) × (length on.old ≡ 128) }
     ensures { Manned (genes_of (words s.now) z) z.activities on.new }
 {
     for a in 0..z.activities {
-        on[a] = plan::assigned(s, z, a);
+        on[a] = machine_of(s, z, a);
     }
 }
 

@@ -63,7 +63,7 @@ module _ {all : Bool} {m : ℕ} {table starts ends tail line : List ℕ} where
       record { kept = λ p lines order r. k ∙ ap (λ (x : Rated). with_one x before) (e p lines order r) }
 
   -- .. that does not enter.
-  pub offers_out : (move : Move) (three : Three) (length : ℕ) → enters three length 0 ≡ false
+  pub offers_out : (move : Move) (three : Three) (length : ℕ) → enters three.count three.first three.second three.third length 0 ≡ false
       → ((p : Problem) (lines : Lines) (order : List ℕ) → Rateable p lines m table starts ends tail line
       → record { length = length; time = 0; made = move } ≡ offered all p lines (placed order starts ends) tail move)
       → Offers all m (move ∷ []) table starts ends tail line (ranked three) (ranked three)

@@ -56,7 +56,14 @@ fn offer_swap(
     ensures { Offers all m (Swap m at ∷ []) table.now starts.now ends.now tail.now line.now (ranked three) (ranked result) }
 {
     let length = weigh(all, line, at, at + 1, table, starts, ends, tail, heads);
-    if !ranking::enters(three, length, 0) {
+    if !ranking::enters(
+        three.count,
+        three.first,
+        three.second,
+        three.third,
+        length,
+        0,
+    ) {
         return three;
     }
     let rated = Rated {
@@ -88,7 +95,7 @@ fn offer_shifts(
     let mut best = three;
     for at in from..end {
         let length = weigh(all, line, at, to, table, starts, ends, tail, heads);
-        if !ranking::enters(best, length, 0) {
+        if !ranking::enters(best.count, best.first, best.second, best.third, length, 0) {
             continue;
         }
         let rated = Rated {

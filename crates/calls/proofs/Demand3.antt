@@ -107,13 +107,14 @@ module _ (p : Problem) (g : Genes) (ok : Accepted p g) (lines : Lines) (w : Well
         → Demand3 p lines answer activities machines starts ends
     eight_circle true q r l =
         let c = (timing_exact p g ok lines w).circle.0 (sym q) in
-        record { contradicts = (λ k. c, λ k. r); otherwise = λ none. absurd (none c) }
+        record { contradicts = (λ k. c, λ k. r); shown = refl; otherwise = λ none. absurd (none c) }
     eight_circle false q r l =
         record {
           contradicts = (
             λ k. absurd (cc (r, k)),
             λ k. absurd (false≢true (q ∙ (timing_exact p g ok lines w).circle.1 k)),
           );
+          shown = refl;
           otherwise = λ none. rows-least (sym q) l r;
         }
 

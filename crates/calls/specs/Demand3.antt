@@ -8,7 +8,7 @@ use Rattle.plan.specs.Problem.{Problem}
 use Rattle.lines.specs.Lines.{Lines, machine_of, place_on}
 use Rattle.timing.specs.Timing.{span_at}
 use Rattle.timing.specs.Exactly.{Binds, Meeting}
-use Rattle.reader.specs.Refusals.{refusal}
+use Rattle.reader.specs.Refusals.{number_of, refusal}
 use Rattle.reader.specs.declared.refusal.Reason.TheVariants.{Contradiction}
 use Rattle.reader.specs.declared.refusal.Refusal.{Refusal}
 use Rattle.calls.specs.declared.Sheet.{Sheet}
@@ -30,4 +30,6 @@ pub record Least (p : Problem) (lines : Lines) (answer : Result Sheet Refusal) (
 -- Of the answer, and of what stands in the lent buffers after the call.
 pub record Demand3 (p : Problem) (lines : Lines) (answer : Result Sheet Refusal) (activities machines starts ends : List ℕ) : Type 0 where
   pub contradicts : (answer ≡ Err (refusal Contradiction 0)) ↔ Circle p.n (Binds p lines)
+  -- as the screen shows it
+  pub shown : number_of Contradiction ≡ 8
   pub otherwise : (Circle p.n (Binds p lines) → ⊥) → Least p lines answer activities machines starts ends

@@ -18,7 +18,7 @@ use Rattle.plan.specs.Input.{problem_of, genes_of}
 use Rattle.plan.specs.Found.{Placed, layout_in, layout_of}
 use Rattle.plan.specs.Accepted.{Accepted}
 use Rattle.plan.specs.declared.Layout.{Layout}
-use Rattle.plan.proofs.Accepting.{accepted_placed, accepted_layout, accepted_means}
+use Rattle.plan.proofs.Accepting.{accepted_total, accepted_placed, accepted_layout, accepted_means}
 use Rattle.tables.specs.Entries.{Entries}
 use Rattle.tables.proofs.EntriesLaws.{entries_of}
 use Rattle.intake.specs.Circle.{closes_circle}
@@ -80,6 +80,9 @@ module _ (s : List ℕ) {r : Reading} (er : r ≡ read_all s) where
 
       pub circle_passed : circle ≡ false → r ≡ taken_in s
       circle_passed t = rw (← er, ea, ← test, t)
+
+      pub circle_total : circle ≡ false → (taken_in s).known.total ≡ z.activities
+      circle_total t = rw (← circle_passed t, ez) (accepted_total s r.known r.starts whole)
 
       pub circle_none : circle ≡ false → Ok z ≡ laid_out (taken_in s)
       circle_none t = rw (← circle_passed t) (laid_so r ea ez)

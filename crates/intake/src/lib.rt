@@ -77,6 +77,7 @@ pub fn take_in(s: &[u8], table: &mut [usize]) -> Result<Layout, Refusal>
     requires { length table.old ≡ cells }
     ensures answer { result ≡ laid_out (taken_in s.now) }
     ensures tabled { IfOk result (λ z. Tabled (problem_of (words s.now) z) table.new) }
+    ensures total { IfOk result (λ z. (taken_in s.now).known.total ≡ z.activities) }
 {
     let z = plan::layout_of(reader::read(s)?);
     tables::fill(s, z, table);

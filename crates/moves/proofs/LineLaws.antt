@@ -1,12 +1,11 @@
 -- One line: taking out and putting in, one place at a time and at once, and what then stands where. Assumes nothing.
 use mathlib.Core.Path.{◌≡◌, refl, sym, ap, ◌∙◌}
-use mathlib.Core.List.{List, [], ◌∷◌, ◌++◌, append_assoc}
-use borrow.Rule.Slice.PartMut.{put_mid}
+use mathlib.Core.List.{List, [], ◌∷◌, ◌++◌}
 use Prim.Native.Nat.{ℕ, zero, suc, ◌+◌, ◌-◌, ◌≤◌, ◌<◌}
 use native.Mathlib.Numerals.{add-one}
 use native.Mathlib.Omega.{arith}
-use lib.ListN.{length, get_or, set, take, drop, length-set, length-drop}
-use lib.Seq.{get_or-set_same, length-take-le}
+use lib.ListN.{length, get_or, set, take, length-set}
+use lib.Seq.{get_or-set_same}
 use Rattle.std.specs.List.{swap}
 use Rattle.std.proofs.lemmas.List.Edits.{swap_is}
 use Rattle.graph.specs.Counting.{count_of, hit}
@@ -45,6 +44,10 @@ pub take_back : (l : List ℕ) (i a : ℕ) → i ≤ length l → remove_at (ins
 take_back l zero a h = refl
 take_back [] (suc i) a h = absurd (omega arith)
 take_back (x ∷ l) (suc i) a h = ap (λ (t : List ℕ). x ∷ t) (take_back l i a (omega arith))
+
+pub stays : (l : List ℕ) (i : ℕ) → i < length l → shifted l i i ≡ l
+unfolding shifted
+stays l i h = put_back l i h
 
 -- ---- what stands where
 
@@ -110,13 +113,19 @@ module _ (l : List ℕ) (from to : ℕ) (f : from < length l) (t : to < length l
       rw e
       (sym (insert_after (remove_at l from) to (get_or l from 0) k' fits (omega arith) ∙ remove_before l from k' (omega arith)))
 
--- ---- one place up is a swap
+-- ---- one place up or down is a swap
 
 up : (l : List ℕ) (i x : ℕ) → i < length l → insert_at l (suc i) x ≡ swap_at (insert_at l i x) i
 unfolding swap_at
 up [] i x h = absurd (omega arith)
 up (y ∷ l) zero x h = refl
 up (y ∷ l) (suc i) x h = ap (λ (t : List ℕ). y ∷ t) (up l i x (omega arith))
+
+down : (l : List ℕ) (i x : ℕ) → i < length l → insert_at l i x ≡ swap_at (insert_at l (suc i) x) i
+unfolding swap_at
+down [] i x h = absurd (omega arith)
+down (y ∷ l) zero x h = refl
+down (y ∷ l) (suc i) x h = ap (λ (t : List ℕ). y ∷ t) (down l i x (omega arith))
 
 -- what std says of a swap of two neighbours
 pub neighbours_swapped : (l : List ℕ) (i : ℕ) → i + 1 < length l → swap l i (i + 1) ≡ swap_at l i
@@ -143,62 +152,22 @@ shift_back l i j h k =
     let g : j ≤ length (remove_at l i) = omega (arith, length_remove l i h) in
     rw (take_back (remove_at l i) j (get_or l i 0) g, insert_at_lem (remove_at l i) j (get_or l i 0) g) (put_back l i h)
 
--- ---- a rotation of the part between by one place is a shift
+-- ---- a shift goes by swaps of neighbours, one place on or back each
 
-remove_split : (l : List ℕ) (i : ℕ) → i < length l → remove_at l i ≡ take i l ++ drop (suc i) l
-remove_split [] i h = absurd (omega arith)
-remove_split (x ∷ l) zero h = refl
-remove_split (x ∷ l) (suc i) h = ap (λ (t : List ℕ). x ∷ t) (remove_split l i (omega arith))
+module _ (l : List ℕ) (from : ℕ) (h : from < length l) (line : List ℕ) (k : ℕ) (b : k + 1 < length l) where
+  pub swapped_on : line ≡ shifted l from k → swap line k (k + 1) ≡ shifted l from (k + 1)
+  unfolding shifted
+  swapped_on e =
+      neighbours_swapped line k (omega (arith, ap length e, length-shifted l from k h))
+      ∙ ap (λ (t : List ℕ). swap_at t k) e
+      ∙ rw (add-one k) (sym (up (remove_at l from) k (get_or l from 0) (omega (arith, length_remove l from h))))
 
-insert_split : (l : List ℕ) (i a : ℕ) → i ≤ length l → insert_at l i a ≡ take i l ++ a ∷ drop i l
-insert_split l zero a h = refl
-insert_split [] (suc i) a h = absurd (omega arith)
-insert_split (x ∷ l) (suc i) a h = ap (λ (t : List ℕ). x ∷ t) (insert_split l i a (omega arith))
-
-last_of : (l : List ℕ) (d : ℕ) → d < length l → drop d (take (suc d) l) ≡ get_or l d 0 ∷ []
-last_of [] d h = absurd (omega arith)
-last_of (x ∷ l) zero h = refl
-last_of (x ∷ l) (suc d) h = last_of l d (omega arith)
-
-rest_of : (l : List ℕ) (d : ℕ) → take d (take (suc d) l) ≡ take d l
-rest_of l zero = refl
-rest_of [] (suc d) = refl
-rest_of (x ∷ l) (suc d) = ap (λ (t : List ℕ). x ∷ t) (rest_of l d)
-
--- d places on
-forward : (l : List ℕ) (from to d : ℕ) → to ≡ from + d → to < length l
-    → take from l ++ ((drop 1 (take (suc d) (drop from l)) ++ take 1 (take (suc d) (drop from l))) ++ drop (suc d) (drop from l)) ≡ shifted l from to
-unfolding shifted
-forward [] from to d e h = absurd (omega arith)
-forward (x ∷ l) zero to d e h = let same : to ≡ d = omega arith in
-    append_assoc (take d l) (x ∷ []) (drop d l) ∙ rw same (sym (insert_split l d x (omega arith)))
-forward (x ∷ l) (suc from) zero d e h = absurd (omega arith)
-forward (x ∷ l) (suc from) (suc to) d e h = ap (λ (t : List ℕ). x ∷ t) (forward l from to d (omega arith) (omega arith))
-
--- d places back
-backward : (l : List ℕ) (from to d : ℕ) → from ≡ to + d → from < length l
-    → take to l ++ ((drop d (take (suc d) (drop to l)) ++ take d (take (suc d) (drop to l))) ++ drop (suc d) (drop to l)) ≡ shifted l from to
-unfolding shifted
-backward [] from to d e h = absurd (omega arith)
-backward (x ∷ l) from zero d e h = let same : from ≡ d = omega arith in
-    rw (same, last_of (x ∷ l) d (omega arith), rest_of (x ∷ l) d) (ap (λ (t : List ℕ). get_or (x ∷ l) d 0 ∷ t) (sym (remove_split (x ∷ l) d (omega arith))))
-backward (x ∷ l) zero (suc to) d e h = absurd (omega arith)
-backward (x ∷ l) (suc from) (suc to) d e h = ap (λ (t : List ℕ). x ∷ t) (backward l from to d (omega arith) (omega arith))
-
--- What a line holds once the part from one place to the other was rotated by one.
-module _ (l part : List ℕ) (from to k : ℕ) where
-  pub rotated_on : from ≤ to → to < length l → k ≡ to + 1 - from → part ≡ drop 1 (take k (drop from l)) ++ take 1 (take k (drop from l))
-      → put_mid from k l part ≡ shifted l from to
-  rotated_on h b q e = let places : k ≡ suc (to - from) = omega arith in
-      rw (e, places) (forward l from to (to - from) (omega arith) b)
-
-  pub rotated_back : to ≤ from → from < length l → k ≡ from + 1 - to
-      → part ≡ drop (length (take k (drop to l)) - 1) (take k (drop to l)) ++ take (length (take k (drop to l)) - 1) (take k (drop to l))
-      → put_mid to k l part ≡ shifted l from to
-  rotated_back h b q e =
-      let places : k ≡ suc (from - to) = omega arith in
-      let last : length (take k (drop to l)) - 1 ≡ from - to = omega (arith, length-take-le k (drop to l) (omega (arith, length-drop to l))) in
-      rw (e, last, places) (backward l from to (from - to) (omega arith) b)
+  pub swapped_back : line ≡ shifted l from (k + 1) → swap line k (k + 1) ≡ shifted l from k
+  unfolding shifted
+  swapped_back e =
+      neighbours_swapped line k (omega (arith, ap length e, length-shifted l from (k + 1) h))
+      ∙ ap (λ (t : List ℕ). swap_at t k) e
+      ∙ rw (add-one k) (sym (down (remove_at l from) k (get_or l from 0) (omega (arith, length_remove l from h))))
 
 -- ---- taking out by a shift to the end, putting in by a shift from there
 

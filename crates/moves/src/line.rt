@@ -2,15 +2,36 @@
 ghost use Rattle.std.specs.Prelude.{◌≡◌, [], ◌∷◌, ◌++◌, ◌+◌, ◌-◌, ◌≤◌, ◌<◌, length, get_or, take};
 ghost use Rattle.moves.specs.Moves.{shifted, remove_at, insert_at};
 
-// The activity at `from` is taken out and put in again at `to`.
+// Towards the front: those between move one place back.
+fn shift_down(line: &mut [usize], from: usize, to: usize)
+    requires { (from < length line.old) × (to ≤ from) }
+    ensures { line.new ≡ shifted line.old from to }
+{
+    for k in (to..from).rev() {
+        line.swap(k, k + 1);
+    }
+}
+
+// Towards the back: those between move one place to the front.
+fn shift_up(line: &mut [usize], from: usize, to: usize)
+    requires { (to < length line.old) × (from ≤ to) }
+    ensures { line.new ≡ shifted line.old from to }
+{
+    for k in from..to {
+        line.swap(k, k + 1);
+    }
+}
+
+// The activity at `from` is taken out and put in again at `to`. Those between are swapped one by one: std's rotations would have the archive
+// for C ask for `memmove` from outside.
 pub fn shift(line: &mut [usize], from: usize, to: usize)
     requires { (from < length line.old) × (to < length line.old) }
     ensures { line.new ≡ shifted line.old from to }
 {
     if to < from {
-        line[to..=from].rotate_right(1);
+        shift_down(line, from, to);
     } else {
-        line[from..=to].rotate_left(1);
+        shift_up(line, from, to);
     }
 }
 
@@ -20,7 +41,8 @@ pub fn take_out(line: &mut [usize], at: usize)
     requires { at < length line.old }
     ensures { line.new ≡ remove_at line.old at ++ (get_or line.old at 0 ∷ []) }
 {
-    line[at..].rotate_left(1);
+    let last = line.len() - 1;
+    shift_up(line, at, last);
 }
 
 // Puts an activity in. The line is lent with one cell more than it has.
@@ -30,7 +52,7 @@ pub fn put_in(line: &mut [usize], at: usize, a: usize)
 {
     let last = line.len() - 1;
     line[last] = a;
-    line[at..].rotate_right(1);
+    shift_down(line, last, at);
 }
 
 // The activity at position k once the one at `from` went to `to`. The line itself stays as it is: the

@@ -9,7 +9,7 @@ use mathlib.Core.List.{List}
 use native.Mathlib.Omega.{arith}
 use native.Mathlib.Nat.{suc-mul, mul-le-mul_right}
 use native.Mathlib.Numerals.{add-one}
-use borrow.Author.Tests.{ltb-true}
+use borrow.Author.Tests.{eqb-true, ltb-true}
 use lib.Dec.{ltb}
 use lib.ListN.{length}
 use Rattle.words.specs.Words.{words}
@@ -54,6 +54,13 @@ no-rest : (s : List ℕ) (r : Reading) → SectionsRead (words s) (length s) sec
 no-rest s x r =
     let assignment = r.2.2.2.2.2.2.2.2.2 in
     omega (arith, assignment.1.within, assignment.2.0, length-words s)
+
+-- The tasks' counts of activities sum to the number of activities.
+known_total : (s : List ℕ) (r : Reading) → SectionsRead (words s) (length s) sections 0 nothing_known nowhere 0 r → r.known.total ≡ r.known.activities
+known_total s x r =
+    let activities = r.2 in
+    let assignment = activities.2.2.2.2.2.2.2.2 in
+    subst (λ (y : Reading). y.known.total ≡ y.known.activities) assignment.2.1 (eqb-true _ _ activities.1.rule)
 
 -- ---- what lies so is small enough, and means an accepted problem
 
@@ -141,6 +148,9 @@ module _ (ws : List ℕ) (z : Layout) (l : Laid ws z) where
 -- ---- the theorems: each holds for every list of bytes, also of numbers that are no bytes
 
 module _ (s : List ℕ) (k : Known) (starts : List ℕ) (e : read_all s ≡ yes k starts) where
+  pub accepted_total : k.total ≡ k.activities
+  accepted_total = known_total s (yes k starts) (accepted_read s k starts e)
+
   pub accepted_layout : Laid (words s) (layout_of (yes k starts))
   accepted_layout = from_sections s (yes k starts) (accepted_read s k starts e)
 

@@ -84,4 +84,4 @@ feasible =
     }
 
 pub contradicting : P7
-contradicting = record { refused = refused; feasible = feasible }
+contradicting = record { refused = refused; shown = refl; feasible = feasible }

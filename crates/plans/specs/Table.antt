@@ -5,6 +5,7 @@ use Rattle.std.specs.Prelude.{ℕ, ◌≡◌, ◌⊎◌, true, false, List, [], 
 use Rattle.std.specs.Float.{fin, binary64}
 use Rattle.std.specs.Float.Ieee.{lt, to_bits}
 use Rattle.reader.specs.Answer.{Accepted}
+use Rattle.reader.specs.Refusals.{number_of}
 use Rattle.reader.specs.declared.refusal.Reason.TheVariants.{Contradiction}
 use Rattle.intake.specs.Intake.{taken_in, problem_in}
 use Rattle.bounds.specs.Bounds.{tardiness_of}
@@ -120,6 +121,7 @@ crossed = (3 ∷ 0 ∷ []) ∷ (1 ∷ 2 ∷ []) ∷ replicate 14 []
 -- P7 all times 0, lines m0 a3 a0, m1 a1 a2: refused 8, though starts of 0 meet every bound.
 pub record P7 : Type 0 where
   pub refused : timed_plan bytes_of_zeros crossed ≡ no Contradiction 0
+  pub shown : number_of Contradiction ≡ 8
   pub feasible : Meeting (problem_in bytes_of_zeros (taken_in bytes_of_zeros)) crossed (λ a. 0)
 
 -- P8 completion 10: deadlines 12, 10, -5, none give 0, 0, 15, 0.

@@ -52,7 +52,8 @@ module _ (x a b c : Rated) where
   falls_out (suc (suc (suc (suc n)))) h z y e = absurd (omega arith)
 
 -- what enters nowhere leaves the three as they are
-pub stays_out : (three : Three) (x : Rated) → enters three x.length x.time ≡ false → ranked three ≡ with_one x (ranked three)
+pub stays_out : (three : Three) (x : Rated) → enters three.count three.first three.second three.third x.length x.time ≡ false
+    → ranked three ≡ with_one x (ranked three)
 stays_out three x e =
     let f = neither _ _ e in
     let g = neither _ _ f.0 in

@@ -39,12 +39,12 @@ with_one x l = take 3 (insert_by precedes x l)
 abbrev pub goes_at : (count place length time : ℕ) → (held : Rated) → Bool
 goes_at count place length time held = leb count place || ranks_before length time held
 
--- a move of this rank goes to one of the three places
-abbrev pub enters : Three → (length time : ℕ) → Bool
-enters three length time =
-    goes_at three.count 0 length time three.first
-    || goes_at three.count 1 length time three.second
-    || goes_at three.count 2 length time three.third
+-- a move of this rank goes to one of three places, of which so many are held
+abbrev pub enters : (count : ℕ) → (first second third : Rated) → (length time : ℕ) → Bool
+enters count first second third length time =
+    goes_at count 0 length time first
+    || goes_at count 1 length time second
+    || goes_at count 2 length time third
 
 -- with more, one after the other
 unfoldable pub with_all : List Rated → List Rated → List Rated

@@ -39,13 +39,21 @@ fn goes_at(count: usize, place: usize, length: u64, time: u64, held: Rated) -> b
     count <= place || (length, time) < (held.length, held.time)
 }
 
-// A move of this rank would be held: a place is free, or one that is held falls out for it.
-pub fn enters(three: Three, length: u64, time: u64) -> bool
-    ensures { result ≡ enters three length time }
+// A move of this rank would be held by three places of which so many are: a place is free, or one that is held falls out for it. The places
+// come one by one and not as `Three`, since the answer is there for any count.
+pub fn enters(
+    count: usize,
+    first: Rated,
+    second: Rated,
+    third: Rated,
+    length: u64,
+    time: u64,
+) -> bool
+    ensures { result ≡ enters count first second third length time }
 {
-    goes_at(three.count, 0, length, time, three.first)
-        || goes_at(three.count, 1, length, time, three.second)
-        || goes_at(three.count, 2, length, time, three.third)
+    goes_at(count, 0, length, time, first)
+        || goes_at(count, 1, length, time, second)
+        || goes_at(count, 2, length, time, third)
 }
 
 // One more held, at most three.

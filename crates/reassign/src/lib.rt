@@ -195,7 +195,14 @@ fn offer_candidates(
         let Some(spot) = room else {
             continue;
         };
-        if !ranking::enters(best, spot.length, time) {
+        if !ranking::enters(
+            best.count,
+            best.first,
+            best.second,
+            best.third,
+            spot.length,
+            time,
+        ) {
             continue;
         }
         best = ranking::keep(best, rated_at(leaving, to, time, spot));

@@ -3,14 +3,14 @@ use Rattle.std.specs.Prelude.{None, Option, Some}
 use Prim.Native.Nat.{ℕ, ◌*◌, ◌/◌}
 use mathlib.Core.Path.{◌≡◌, refl}
 use mathlib.Core.Bool.{false, cond, ◌&&◌}
-use mathlib.Core.List.{List, [], ◌∷◌, ◌++◌}
+use mathlib.Core.List.{List, [], ◌∷◌, ◌++◌, map}
 use lib.Dec.{eqb}
 use lib.IntN.{ℤ, pos, negsuc}
 use lib.ListN.{get_or}
 use lib.Ieee.{fin}
 use Rattle.plan.specs.Problem.{Problem}
 use Rattle.sheet.specs.Rows.{first, last}
-use Rattle.sheet.specs.Sheet.{all, check_from, check_sheet}
+use Rattle.sheet.specs.Sheet.{number_of, all, check_from, check_sheet}
 use Rattle.sheet.specs.declared.Rule.TheVariants.{Known, Once, Start, End, Span, Release, Line, Step, Named}
 use Rattle.sheet.specs.declared.Verdict.TheVariants.{Accepted, Bad, Missing}
 
@@ -56,6 +56,10 @@ improved = row 2 0 0 1 ++ (row 3 1 1 6 ++ (row 0 0 1 4 ++ row 1 1 6 10))
 pub plan_s_lem : check_sheet (plan 0 []) improved ≡ Accepted
 unfolding first last all check_from
 plan_s_lem = refl
+
+-- the rules by their numbers
+pub rules_numbered : map number_of (Known ∷ Once ∷ Start ∷ End ∷ Span ∷ Release ∷ Line ∷ Step ∷ Named ∷ []) ≡ 1 ∷ 2 ∷ 3 ∷ 4 ∷ 5 ∷ 6 ∷ 7 ∷ 8 ∷ 9 ∷ []
+rules_numbered = refl
 
 -- 1: activity 4; machine 2; activity -1; a last row without its end, after rows that are all good
 pub unknown :

@@ -4,3 +4,4 @@ pub mod TryLaws
 pub mod TabooLaws
 pub mod SixPlaces
 pub mod Worked
+pub mod CopyLaws

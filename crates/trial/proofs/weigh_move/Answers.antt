@@ -17,4 +17,4 @@ returns-then-not-counts c = let e : (counts c.args.forbidden c.args.best (fitnes
 
 pub returns : goal.returns
 returns c = let e : (counts c.args.forbidden c.args.best (fitness_of (problem_of (words c.args.s.now) c.args.z) (λ a. get_or c.args.ends.now a 0)) c.args.held) ≡ true = ap (λ (f : Float). counts c.args.forbidden c.args.best f c.args.held) (sym c.fitness_by_last_steps-fitness.ensures) ∙ sym c.counts.ensures ∙ c.if-not-counts.false in
-    record { answer = ap (λ (f : Float). Found f c.args.m) c.fitness_by_last_steps-fitness.ensures ∙ weighed_taken c.args.forbidden c.args.best (fitness_of (problem_of (words c.args.s.now) c.args.z) (λ a. get_or c.args.ends.now a 0)) c.args.m c.args.held e; order = c.copy_from_slice.ensures.after ∙ list_taken (counts c.args.forbidden c.args.best (fitness_of (problem_of (words c.args.s.now) c.args.z) (λ a. get_or c.args.ends.now a 0)) c.args.held) _ _ e; starts = c.copy_from_slice-2.ensures.after ∙ list_taken (counts c.args.forbidden c.args.best (fitness_of (problem_of (words c.args.s.now) c.args.z) (λ a. get_or c.args.ends.now a 0)) c.args.held) _ _ e; ends = c.copy_from_slice-3.ensures.after ∙ list_taken (counts c.args.forbidden c.args.best (fitness_of (problem_of (words c.args.s.now) c.args.z) (λ a. get_or c.args.ends.now a 0)) c.args.held) _ _ e }
+    record { answer = ap (λ (f : Float). Found f c.args.m) c.fitness_by_last_steps-fitness.ensures ∙ weighed_taken c.args.forbidden c.args.best (fitness_of (problem_of (words c.args.s.now) c.args.z) (λ a. get_or c.args.ends.now a 0)) c.args.m c.args.held e; order = c.copy.ensures ∙ list_taken (counts c.args.forbidden c.args.best (fitness_of (problem_of (words c.args.s.now) c.args.z) (λ a. get_or c.args.ends.now a 0)) c.args.held) _ _ e; starts = c.copy-2.ensures ∙ list_taken (counts c.args.forbidden c.args.best (fitness_of (problem_of (words c.args.s.now) c.args.z) (λ a. get_or c.args.ends.now a 0)) c.args.held) _ _ e; ends = c.copy-3.ensures ∙ list_taken (counts c.args.forbidden c.args.best (fitness_of (problem_of (words c.args.s.now) c.args.z) (λ a. get_or c.args.ends.now a 0)) c.args.held) _ _ e }
